@@ -1,0 +1,8 @@
+-- What every layer cites: definitions and laws that know nothing of fields or circuits.
+pub mod Pick
+pub mod Exponent
+pub mod Drops
+pub mod Tables
+pub mod Modular
+pub mod Powers
+pub mod Roots

@@ -1,0 +1,2 @@
+-- 01, 'Labels': definitions in 01's order, then their laws.
+pub mod Ranges

@@ -1,0 +1,51 @@
+-- 01, the ranges of N and C, which labels, planning and made-up plans all test.
+--
+-- Main definition: `rangesFit`. Main statement: `ranges-fit`.
+use mathlib.Core.Path.{_≡_}
+use mathlib.Core.Bool.{Bool, true, false}
+use Prim.Native.Nat.{ℕ, _^_, _≤_}
+use native.Mathlib.Omega.{arith}
+use lib.Dec.{leb}
+use borrow.Author.Tests.{leb-true}
+use Rattle.base.specs.Pick.{pick, both, both-true}
+use Rattle.base.specs.Exponent.{isPower, exponent, power-is, exponent-least}
+
+-- "N is the trace length, a power of two, 1..65,536."
+abbrev pub longestTrace : ℕ
+longestTrace = 65536
+
+abbrev pub traceFits : ℕ → Bool
+traceFits n = both (leb n longestTrace) (isPower n)
+
+-- "C: copy columns, 1..64."
+abbrev pub mostColumns : ℕ
+mostColumns = 64
+
+abbrev pub columnsFit : ℕ → Bool
+columnsFit c = both (leb 1 c) (leb c mostColumns)
+
+unfoldable pub rangesFit : ℕ → ℕ → Bool
+rangesFit n c = both (traceFits n) (columnsFit c)
+
+-- what the ranges give
+pub record Ranges (n c : ℕ) : Type 0 where
+  pub power : 2 ^ exponent n ≡ n
+  pub long : n ≤ longestTrace
+  pub low : exponent n ≤ 16
+  pub some-column : 1 ≤ c
+  pub columns : c ≤ mostColumns
+
+pub ranges-fit : (n c : ℕ) → rangesFit n c ≡ true → Ranges n c
+unfolding rangesFit
+ranges-fit n c e =
+    let b = both-true (traceFits n) (columnsFit c) e in
+    let t = both-true (leb n longestTrace) (isPower n) (b .0) in
+    let k = both-true (leb 1 c) (leb c mostColumns) (b .1) in
+    let l : n ≤ 65536 = leb-true n longestTrace (t .0) in
+    record {
+      power = power-is n (t .1);
+      long = l;
+      low = exponent-least n 16 l;
+      some-column = leb-true 1 c (k .0);
+      columns = leb-true c mostColumns (k .1);
+    }
