@@ -1,0 +1,208 @@
+-- Laws of records and of the first faulty one.
+--
+-- Main definitions: `Each`, `Whole`, `Sized`, `Rest` (the records that a loop has still to read).
+-- Main statements: `fault-head`, `fault-each` (what no fault says), `read-append` (pieces put end to end), and for loops `first-turn`, `first-found`, `first-done`,
+-- `rest-begin`, `rest-whole`, `rest-cut`, `rest-done`, `below-turn`.
+use mathlib.Core.Path.{_≡_, refl, sym, ap, _∙_}
+use mathlib.Core.Logic.{_≢_}
+use mathlib.Core.Bool.{Bool, true, false}
+use mathlib.Core.List.{List, [], _∷_, _++_}
+use Prim.Native.Nat.{ℕ, zero, suc, _+_, _-_, _≤_, _<_}
+use native.Mathlib.Nat.{not-suc-le-zero, le-of-suc-le-suc}
+use native.Mathlib.Decide.{ℕ-discrete, decLe}
+use native.Mathlib.Omega.{arith}
+use lib.ListN.{length, getD, take, drop, length-drop, length-append}
+use lib.Seq.{length-take-le, drop-append-le, take-append-le, drop-drop, getD-drop}
+use lib.Dec.{ltb, leb, eqb}
+use borrow.Author.Tests.{lt-ltb, le-ltb, le-leb, lt-leb, eq-eqb, ne-eqb}
+use Rattle.base.specs.Pick.{pick}
+use Rattle.base.specs.Drops.{drop-none, drop-one, drop-two, drop-last}
+use Rattle.pieces.specs.Records.{Read, whole, cut, readBy, firstFault, allBelow}
+
+-- ---- each of a list
+abbrev pub Each : {X : Type 0} → (X → Type 0) → List X → Type 0
+Each P [] = Unit {0}
+Each P (x ∷ xs) = P x × Each P xs
+
+pub each-append : {X : Type 0} (P : X → Type 0) (xs ys : List X) → Each P xs → Each P ys → Each P (xs ++ ys)
+each-append P [] ys a b = b
+each-append P (x ∷ xs) ys (p, a) b = (p, each-append P xs ys a b)
+
+pub each-at : {X : Type 0} (P : X → Type 0) (xs : List X) (d : X) → Each P xs → (i : ℕ) → i < length xs → P (getD xs i d)
+each-at P [] d a i h = absurd (not-suc-le-zero h)
+each-at P (x ∷ xs) d (p, a) zero h = p
+each-at P (x ∷ xs) d (p, a) (suc i) h = each-at P xs d a i (le-of-suc-le-suc h)
+
+-- what no fault says of each
+module _ {S X : Type 0} (fault : S → X → ℕ) (next : S → X → S) where
+  pub fault-head : (s : S) (x : X) (xs : List X) → firstFault fault next s (x ∷ xs) ≡ 0 → (fault s x ≡ 0) × (firstFault fault next (next s x) xs ≡ 0)
+  unfolding firstFault
+  fault-head s x xs e = go (ℕ-discrete (fault s x) 0)
+    where
+      go : Dec (fault s x ≡ 0) → (fault s x ≡ 0) × (firstFault fault next (next s x) xs ≡ 0)
+      go (yes z) = (z, rw (eq-eqb (fault s x) 0 z) at e)
+      go (no d) = absurd (d (rw (ne-eqb (fault s x) 0 d) at e))
+
+  pub fault-each : (P : X → Type 0) → ((s : S) (x : X) → fault s x ≡ 0 → P x) → (s : S) (xs : List X) → firstFault fault next s xs ≡ 0 → Each P xs
+  fault-each P good s [] e = tt
+  fault-each P good s (x ∷ xs) e = let h = fault-head s x xs e in (good s x (h .0), fault-each P good (next s x) xs (h .1))
+
+-- ---- records of pieces put end to end
+abbrev pub Whole : Read → Type 0
+Whole cut = ⊥
+Whole (whole a b ws) = Unit {0}
+
+abbrev pub Sized : (ℕ → ℕ → ℕ) → Read → Type 0
+Sized size cut = Unit {0}
+Sized size (whole a b ws) = length ws ≡ size a b
+
+module _ (size : ℕ → ℕ → ℕ) where
+  -- a record has the words that it says
+  pub read-sized : (f : ℕ) (ws : List ℕ) → Each (Sized size) (readBy size f ws)
+  unfolding readBy
+  read-sized zero ws = tt
+  read-sized (suc f) [] = tt
+  read-sized (suc f) (a ∷ []) = (tt, tt)
+  read-sized (suc f) (a ∷ (b ∷ ws)) = go (decLe (size a b) (length ws)) (read-sized f (drop (size a b) ws))
+    where
+      n : ℕ
+      n = size a b
+
+      go : Dec (n ≤ length ws) → Each (Sized size) (readBy size f (drop n ws)) → Each (Sized size) (pick (leb n (length ws)) (whole a b (take n ws) ∷ readBy size f (drop n ws)) (cut ∷ []))
+      go (yes h) r = rw (le-leb n (length ws) h) (length-take-le n ws h, r)
+      go (no h) r = rw (lt-leb n (length ws) (omega arith)) (tt, tt)
+
+  -- more fuel reads the same
+  pub read-fuel : (f g : ℕ) (ws : List ℕ) → length ws ≤ f → length ws ≤ g → readBy size f ws ≡ readBy size g ws
+  unfolding readBy
+  read-fuel zero zero ws a b = refl
+  read-fuel zero (suc g) [] a b = refl
+  read-fuel zero (suc g) (w ∷ ws) a b = absurd (not-suc-le-zero a)
+  read-fuel (suc f) zero [] a b = refl
+  read-fuel (suc f) zero (w ∷ ws) a b = absurd (not-suc-le-zero b)
+  read-fuel (suc f) (suc g) [] a b = refl
+  read-fuel (suc f) (suc g) (x ∷ []) a b = refl
+  read-fuel (suc f) (suc g) (x ∷ (y ∷ ws)) a b =
+      rw (read-fuel f g (drop (size x y) ws) (omega (arith, length-drop (size x y) ws)) (omega (arith, length-drop (size x y) ws)))
+
+  pub read-append : (f g e : ℕ) (xs ys : List ℕ) → length xs ≤ f → length ys ≤ g → length xs + length ys ≤ e → Each Whole (readBy size f xs)
+      → readBy size e (xs ++ ys) ≡ readBy size f xs ++ readBy size g ys
+  unfolding readBy
+  read-append zero g e [] ys a b c w = read-fuel e g ys (omega arith) b
+  read-append zero g e (x ∷ xs) ys a b c w = absurd (not-suc-le-zero a)
+  read-append (suc f) g e [] ys a b c w = read-fuel e g ys (omega arith) b
+  read-append (suc f) g e (x ∷ []) ys a b c (w, _) = absurd w
+  read-append (suc f) g zero (x ∷ (y ∷ xs)) ys a b c w = absurd (omega arith)
+  read-append (suc f) g (suc e) (x ∷ (y ∷ xs)) ys a b c w = go (decLe (size x y) (length xs)) w
+      (read-append f g e (drop (size x y) xs) ys (omega (arith, length-drop (size x y) xs)) b (omega (arith, length-drop (size x y) xs)))
+    where
+      n : ℕ
+      n = size x y
+
+      go : Dec (n ≤ length xs)
+          → Each Whole (pick (leb n (length xs)) (whole x y (take n xs) ∷ readBy size f (drop n xs)) (cut ∷ []))
+          → (Each Whole (readBy size f (drop n xs)) → readBy size e (drop n xs ++ ys) ≡ readBy size f (drop n xs) ++ readBy size g ys)
+          → pick (leb n (length (xs ++ ys))) (whole x y (take n (xs ++ ys)) ∷ readBy size e (drop n (xs ++ ys))) (cut ∷ [])
+          ≡ pick (leb n (length xs)) (whole x y (take n xs) ∷ readBy size f (drop n xs)) (cut ∷ []) ++ readBy size g ys
+      go (yes h) q r =
+          let t : leb n (length xs) ≡ true = le-leb n (length xs) h in
+          let t' : leb n (length (xs ++ ys)) ≡ true = le-leb n (length (xs ++ ys)) (omega (arith, length-append xs ys)) in
+          let q' = rw t at q in
+          rw (t, t', take-append-le n xs ys h, drop-append-le n xs ys h, r (q' .1))
+      go (no h) q r =
+          let t : leb n (length xs) ≡ false = lt-leb n (length xs) (omega arith) in
+          let q' = rw t at q in absurd (q' .0)
+
+-- ---- a loop over words that looks for the first fault
+module _ {S : Type 0} (fault : S → ℕ → ℕ) (next : S → ℕ → S) (s : S) (ws : List ℕ) (i : ℕ) where
+  pub first-turn : i < length ws → fault s (getD ws i 0) ≡ 0 → firstFault fault next s (drop i ws) ≡ firstFault fault next (next s (getD ws i 0)) (drop (i + 1) ws)
+  unfolding firstFault
+  first-turn h e = ap (firstFault fault next s) (drop-one ws i h) ∙ rw (eq-eqb (fault s (getD ws i 0)) 0 e)
+
+  pub first-found : i < length ws → fault s (getD ws i 0) ≢ 0 → firstFault fault next s (drop i ws) ≡ fault s (getD ws i 0)
+  unfolding firstFault
+  first-found h d = ap (firstFault fault next s) (drop-one ws i h) ∙ rw (ne-eqb (fault s (getD ws i 0)) 0 d)
+
+  pub first-done : length ws ≤ i → firstFault fault next s (drop i ws) ≡ 0
+  unfolding firstFault
+  first-done h = ap (firstFault fault next s) (drop-none ws i h)
+
+-- ---- a loop over words that looks for one not below n
+module _ (n : ℕ) (ws : List ℕ) (i : ℕ) where
+  pub below-done : length ws ≤ i → allBelow n (drop i ws) ≡ true
+  unfolding allBelow
+  below-done h = ap (allBelow n) (drop-none ws i h)
+
+  pub below-turn : i < length ws → getD ws i 0 < n → allBelow n (drop i ws) ≡ allBelow n (drop (i + 1) ws)
+  unfolding allBelow
+  below-turn h l = ap (allBelow n) (drop-one ws i h) ∙ rw (lt-ltb (getD ws i 0) n l)
+
+  pub below-found : i < length ws → n ≤ getD ws i 0 → allBelow n (drop i ws) ≡ false
+  unfolding allBelow
+  below-found h l = ap (allBelow n) (drop-one ws i h) ∙ rw (le-ltb (getD ws i 0) n l)
+
+-- ---- a loop over records: those from the word i on. The turns stand in no variable of the code
+pub record Rest (size : ℕ → ℕ → ℕ) (ws : List ℕ) (i : ℕ) (rs : List Read) : Type 0 where
+  pub turns : ℕ
+  pub enough : length ws - i ≤ turns
+  pub are : rs ≡ readBy size turns (drop i ws)
+
+-- one whole record, and those after it
+pub record Next (size : ℕ → ℕ → ℕ) (ws : List ℕ) (i : ℕ) (rs : List Read) : Type 0 where
+  pub later : List Read
+  pub split : rs ≡ whole (getD ws i 0) (getD ws (i + 1) 0) (take (size (getD ws i 0) (getD ws (i + 1) 0)) (drop (i + 2) ws)) ∷ later
+  pub rest : Rest size ws (i + 2 + size (getD ws i 0) (getD ws (i + 1) 0)) later
+
+module _ (size : ℕ → ℕ → ℕ) (ws : List ℕ) where
+  pub rest-begin : Rest size ws 0 (readBy size (length ws) ws)
+  rest-begin = record { turns = length ws; enough = omega arith; are = refl }
+
+  none-left : (f : ℕ) → readBy size f [] ≡ []
+  unfolding readBy
+  none-left zero = refl
+  none-left (suc f) = refl
+
+  pub rest-done : (i : ℕ) (rs : List Read) → Rest size ws i rs → length ws ≤ i → rs ≡ []
+  rest-done i rs r h = r .are ∙ ap (readBy size (r .turns)) (drop-none ws i h) ∙ none-left (r .turns)
+
+  module _ (i : ℕ) (rs : List Read) (r : Rest size ws i rs) where
+    a : ℕ
+    a = getD ws i 0
+
+    b : ℕ
+    b = getD ws (i + 1) 0
+
+    step : (f : ℕ) → i + 1 < length ws → readBy size (suc f) (drop i ws)
+        ≡ pick (leb (size a b) (length (drop (i + 2) ws))) (whole a b (take (size a b) (drop (i + 2) ws)) ∷ readBy size f (drop (size a b) (drop (i + 2) ws))) (cut ∷ [])
+    unfolding readBy a b
+    step f h = ap (readBy size (suc f)) (drop-two ws i h)
+
+    pub rest-whole : i + 1 < length ws → size (getD ws i 0) (getD ws (i + 1) 0) ≤ length ws - (i + 2) → Next size ws i rs
+    unfolding a b
+    rest-whole h k =
+        let n = size (getD ws i 0) (getD ws (i + 1) 0) in
+        let f : r .turns ≡ suc (r .turns - 1) = omega (arith, r .enough) in
+        let l : leb n (length (drop (i + 2) ws)) ≡ true = le-leb n (length (drop (i + 2) ws)) (omega (arith, length-drop (i + 2) ws)) in
+        let d : drop n (drop (i + 2) ws) ≡ drop (i + 2 + n) ws = drop-drop n (i + 2) ws in
+        record {
+          later = readBy size (r .turns - 1) (drop (i + 2 + n) ws);
+          split = r .are ∙ ap (λ (t : ℕ). readBy size t (drop i ws)) f ∙ step (r .turns - 1) h ∙ rw (l, d);
+          rest = record { turns = r .turns - 1; enough = omega (arith, r .enough); are = refl };
+        }
+
+    pub rest-cut : i + 1 < length ws → length ws - (i + 2) < size (getD ws i 0) (getD ws (i + 1) 0) → rs ≡ cut ∷ []
+    unfolding a b
+    rest-cut h k =
+        let n = size (getD ws i 0) (getD ws (i + 1) 0) in
+        let f : r .turns ≡ suc (r .turns - 1) = omega (arith, r .enough) in
+        let l : leb n (length (drop (i + 2) ws)) ≡ false = lt-leb n (length (drop (i + 2) ws)) (omega (arith, length-drop (i + 2) ws)) in
+        r .are ∙ ap (λ (t : ℕ). readBy size t (drop i ws)) f ∙ step (r .turns - 1) h ∙ rw l
+
+    one-left : (f : ℕ) (w : ℕ) → readBy size (suc f) (w ∷ []) ≡ cut ∷ []
+    unfolding readBy
+    one-left f w = refl
+
+    pub rest-short : i < length ws → length ws ≤ i + 1 → rs ≡ cut ∷ []
+    rest-short h k =
+        let f : r .turns ≡ suc (r .turns - 1) = omega (arith, r .enough) in
+        r .are ∙ ap (λ (t : ℕ). readBy size t (drop i ws)) f ∙ ap (readBy size (suc (r .turns - 1))) (drop-last ws i h k) ∙ one-left (r .turns - 1) (getD ws i 0)
