@@ -14,3 +14,5 @@ pub mod RecordLaws
 pub mod CellLaws
 pub mod Permutation
 pub mod PermutationLaws
+pub mod FaultLaws
+pub mod ClosedForms
