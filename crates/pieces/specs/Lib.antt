@@ -16,3 +16,4 @@ pub mod Permutation
 pub mod PermutationLaws
 pub mod FaultLaws
 pub mod ClosedForms
+pub mod NumberLaws
