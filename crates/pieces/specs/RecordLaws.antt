@@ -1,7 +1,7 @@
 -- Laws of records and of the first faulty one.
 --
 -- Main definitions: `Each`, `Whole`, `Sized`, `Rest` (the records that a loop has still to read).
--- Main statements: `fault-head`, `fault-each` (what no fault says), `read-append` (pieces put end to end), and for loops `first-turn`, `first-found`, `first-done`,
+-- Main statements: `fault-head`, `fault-each` (what no fault says), `read-append` (pieces put end to end), and for loops `first-turn`, `count-turn`, `first-found`, `first-done`,
 -- `rest-begin`, `rest-whole`, `rest-cut`, `rest-done`, `below-turn`.
 use mathlib.Core.Path.{_≡_, refl, sym, ap, _∙_}
 use mathlib.Core.Logic.{_≢_}
@@ -9,6 +9,7 @@ use mathlib.Core.Bool.{Bool, true, false}
 use mathlib.Core.List.{List, [], _∷_, _++_}
 use Prim.Native.Nat.{ℕ, zero, suc, _+_, _-_, _≤_, _<_}
 use native.Mathlib.Nat.{not-suc-le-zero, le-of-suc-le-suc}
+use native.Mathlib.Numerals.{add-one}
 use native.Mathlib.Decide.{ℕ-discrete, decLe}
 use native.Mathlib.Omega.{arith}
 use lib.ListN.{length, getD, take, drop, length-drop, length-append}
@@ -126,6 +127,11 @@ module _ {S : Type 0} (fault : S → ℕ → ℕ) (next : S → ℕ → S) (s : 
   pub first-done : length ws ≤ i → firstFault fault next s (drop i ws) ≡ 0
   unfolding firstFault
   first-done h = ap (firstFault fault next s) (drop-none ws i h)
+
+-- the same for words that are counted from k on
+pub count-turn : (fault : ℕ → ℕ → ℕ) (k : ℕ) (ws : List ℕ) (i : ℕ) → i < length ws → fault k (getD ws i 0) ≡ 0
+    → firstFault fault (λ k _. suc k) k (drop i ws) ≡ firstFault fault (λ k _. suc k) (k + 1) (drop (i + 1) ws)
+count-turn fault k ws i h e = rw add-one (first-turn fault (λ k _. suc k) k ws i h e)
 
 -- ---- a loop over words that looks for one not below n
 module _ (n : ℕ) (ws : List ℕ) (i : ℕ) where

@@ -1,0 +1,1 @@
+-- 01, 'Columns by pieces': what the code's types mean in the definitions of `pieces`.

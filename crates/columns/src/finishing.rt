@@ -1,0 +1,1 @@
+// Finishing: the scratch words tested, and the values written to their first cells.

@@ -1,0 +1,1 @@
+// Lookup tables: stacked, each row with its table's number.
