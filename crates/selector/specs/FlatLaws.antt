@@ -10,6 +10,7 @@ use mathlib.Core.List.{List}
 use mathlib.Core.Logic.{_⊎_, inl, inr, ⊎-elim}
 use mathlib.Core.Option.{Option, none, some}
 use mathlib.Core.Path.{_∙_, _≡_, ap, refl, subst, sym}
+use native.Mathlib.Decide.{decLt, ℕ-discrete}
 use native.Mathlib.Omega.{arith}
 use Rattle.base.specs.Pick.{pick}
 use Rattle.selector.specs.Flat.{Fine, Placed, offerFork, offerLeaf, offerNode, orElse, placed, splitFlat}
@@ -293,3 +294,73 @@ module _ (fit : ℕ → ℕ → Bool) (c g : ℕ) (full : (h d : ℕ) → c < d 
       (offerNode f fit g (d + 1) (rightAt ns i) ns n)
       (implements room l f (d + 1) (leftAt ns i) ol (omega arith) hl)
       (implements room r f (d + 1) (rightAt ns i) orr (omega arith) hr))
+
+-- an offer leaves the nodes and the count, or splits a node
+abbrev pub Spot : List ℕ → ℕ → ℕ → Placed → Type 0
+Spot ns n g p = (p ≡ placed ns n) ⊎ ((j : ℕ) × (j < n) × (p ≡ placed (splitFlat ns n j g) (n + 2)))
+
+spot-pick : (ns : List ℕ) (n g : ℕ) (t : Bool) (p q : Placed) → Spot ns n g p → Spot ns n g q → Spot ns n g (pick t p q)
+spot-pick ns n g true p q a b = a
+spot-pick ns n g false p q a b = b
+
+module _ (fit : ℕ → ℕ → Bool) (g : ℕ) (gs ns : List ℕ) (n : ℕ) where
+  spot-leaf : (d i : ℕ) → i < n → Spot ns n g (offerLeaf fit g d i ns n)
+  unfolding offerLeaf
+  spot-leaf d i h =
+      spot-pick ns n g (fit (gateAt ns i) (d + 1)) _ _
+      (spot-pick ns n g (fit g (d + 1)) (placed (splitFlat ns n i g) (n + 2)) _ (inr (i, h, refl)) (inl refl))
+      (inl refl)
+
+  pub spot : (f d i : ℕ) → Fine gs ns n i g → Spot ns n g (offerNode f fit g d i ns n)
+  unfolding offerNode
+  spot zero d i h = inl refl
+  spot (suc f) d i h =
+      spot-pick ns n g (eqb (leftAt ns i) 0) _ _
+      (spot-leaf d i (h .here))
+      (spot-pick ns n g (eqb (offerNode f fit g (d + 1) (leftAt ns i) ns n .count) n) _ _
+      (spot f (d + 1) (rightAt ns i) (fine-at h _ (h .rights i (h .here))))
+      (spot f (d + 1) (leftAt ns i) (fine-at h _ (h .lefts i (h .here)))))
+
+-- where a node k stands after a split of j
+data Which (n j k : ℕ) : Type 0 where
+  split-one : k ≡ j → Which n j k
+  as-before : k < n → (k ≡ j → ⊥) → Which n j k
+  old-one : k ≡ n → Which n j k
+  new-one : k ≡ n + 1 → Which n j k
+
+which : (n j k : ℕ) → k < n + 2 → Dec (k ≡ j) → Dec (k < n) → Dec (k ≡ n) → Which n j k
+which n j k h (yes a) b c = split-one a
+which n j k h (no a) (yes b) c = as-before b a
+which n j k h (no a) (no b) (yes c) = old-one c
+which n j k h (no a) (no b) (no c) = new-one (omega arith)
+
+module _ (gs ns : List ℕ) (n i g j x : ℕ) (fine : Fine gs ns n i g) (inside : j < n) (room : n * 3 + 5 < length ns) (listed : x * 3 + 2 < length gs) where
+  lefts-by : (k : ℕ) → Which n j k → leftAt (splitFlat ns n j x) k < n + 2
+  lefts-by k (split-one e) = rw (e, split-left ns n j x inside room) (omega arith)
+  lefts-by k (as-before a b) = rw (split-left-other ns n j x inside room k a b) (omega (arith, fine .lefts k a))
+  lefts-by k (old-one e) = rw (e, old-left ns n j x inside room) (omega arith)
+  lefts-by k (new-one e) = rw (e, new-left ns n j x inside room) (omega arith)
+
+  rights-by : (k : ℕ) → Which n j k → rightAt (splitFlat ns n j x) k < n + 2
+  rights-by k (split-one e) = rw (e, split-right ns n j x inside room) (omega arith)
+  rights-by k (as-before a b) = rw (split-right-other ns n j x inside room k a b) (omega (arith, fine .rights k a))
+  rights-by k (old-one e) = rw (e, old-right ns n j x inside room) (omega arith)
+  rights-by k (new-one e) = rw (e, new-right ns n j x inside room) (omega arith)
+
+  gates-by : (k : ℕ) → Which n j k → gateAt (splitFlat ns n j x) k * 3 + 2 < length gs
+  gates-by k (split-one e) = rw (e, split-gate ns n j x inside room) (omega arith)
+  gates-by k (as-before a b) = rw (split-gate-other ns n j x inside room k a b) (fine .gates k a)
+  gates-by k (old-one e) = rw (e, old-gate ns n j x inside room) (fine .gates j inside)
+  gates-by k (new-one e) = rw (e, new-gate ns n j x inside room) listed
+
+  -- a split leaves the nodes fit for the next offer, y, to the node at the root
+  pub fine-split : (y : ℕ) → n + 2 < 254 → y * 3 + 2 < length gs → Fine gs (splitFlat ns n j x) (n + 2) 0 y
+  fine-split y more next =
+      record {
+        room = more;
+        here = omega arith;
+        listed = next;
+        lefts = λ k h. lefts-by k (which n j k h (ℕ-discrete k j) (decLt k n) (ℕ-discrete k n));
+        rights = λ k h. rights-by k (which n j k h (ℕ-discrete k j) (decLt k n) (ℕ-discrete k n));
+        gates = λ k h. gates-by k (which n j k h (ℕ-discrete k j) (decLt k n) (ℕ-discrete k n));
+      }

@@ -13,7 +13,7 @@ use mathlib.Core.Path.{_∙_, _≡_, ap, refl, subst}
 use native.Mathlib.Omega.{arith}
 use Rattle.base.specs.Pick.{pick}
 use Rattle.selector.specs.Flat.{Placed, Stands, growFlat, growFrom, levels, offerNode, placed, splitFlat}
-use Rattle.selector.specs.FlatLaws.{Grown, Match, implements, length-split}
+use Rattle.selector.specs.FlatLaws.{Grown, Match, implements, length-split, spot}
 use Rattle.selector.specs.Gates.{Among, Distinct, Listed}
 use Rattle.selector.specs.GrowthLaws.{In, Kept, Once, Within, offer-kept, offer-within}
 use Rattle.selector.specs.NodeLaws.{length-put, put-gate, put-left}
