@@ -3,6 +3,7 @@ pub mod Pick
 pub mod Exponent
 pub mod Drops
 pub mod Tables
+pub mod Firsts
 pub mod Modular
 pub mod Powers
 pub mod Roots

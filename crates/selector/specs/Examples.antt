@@ -1,0 +1,53 @@
+-- 01's worked circuits P5, P6 and P10, and its runs of 64 and 65 gates, by computation.
+--
+-- Main statements: `p5`, `p6`, `p10`, `sixty-four`.
+use Prim.Native.Nat.{_-_, suc, zero, ℕ}
+use mathlib.Core.List.{List, [], _∷_}
+use mathlib.Core.Option.{Option, none, some}
+use mathlib.Core.Path.{_≡_, refl}
+use Rattle.base.specs.Exponent.{exponentFrom}
+use Rattle.selector.specs.Gates.{comesBefore, constantsOf, degreeAt, greatest, inserted, placedFrom, placedGates, sorted}
+use Rattle.selector.specs.Paths.{pathOf, pathTo}
+use Rattle.selector.specs.Search.{constantsOver, degreeOver, firstBound, firstTarget, mayStand, planTree, searchTree, targets, treeD, treeF, treeK, treeWithin}
+use Rattle.selector.specs.Tree.{Tree, fork, grown, leaf, offer, offerAll, size}
+
+-- P5 lookup at depth 0, 2, 5: degree 2, 2, 5
+pub p5 : (degreeAt (3 ∷ 0 ∷ 0 ∷ []) 0 0 ≡ 2) × (degreeAt (3 ∷ 0 ∷ 0 ∷ []) 0 2 ≡ 2) × (degreeAt (3 ∷ 0 ∷ 0 ∷ []) 0 5 ≡ 5)
+unfolding degreeAt
+p5 = (refl, refl, refl)
+
+-- the paths of the gates from g on, as many as the list has
+unfoldable pub pathsFrom : ℕ → List (List ℕ) → Tree → List (List ℕ)
+pathsFrom g [] t = []
+pathsFrom g (p ∷ ps) t = pathOf g t ∷ pathsFrom (suc g) ps t
+
+-- what a circuit's tree, D, K, F and paths are
+pub record Planning (gs : List ℕ) (m : ℕ) (t : Tree) (d k f : ℕ) (paths : List (List ℕ)) : Type 0 where
+  pub tree : planTree 0 gs m ≡ some t
+  pub degree : treeD gs t ≡ d
+  pub constants : treeK 0 gs t ≡ k
+  pub divisor : treeF gs t ≡ f
+  pub ways : pathsFrom 0 paths t ≡ paths
+
+-- P6 gates (0,2,1), (0,1,0), (1,0,0), A=1: paths 1, 01, 00; D=3, K=2, F=2
+pub p6 : Planning (0 ∷ 2 ∷ 1 ∷ 0 ∷ 1 ∷ 0 ∷ 1 ∷ 0 ∷ 0 ∷ []) 3 (fork (leaf 0) (fork (leaf 1) (leaf 2))) 3 2 2 ((1 ∷ []) ∷ (0 ∷ 1 ∷ []) ∷ (0 ∷ 0 ∷ []) ∷ [])
+unfolding constantsOf degreeAt placedFrom comesBefore inserted sorted greatest exponentFrom offer offerAll grown mayStand firstBound firstTarget treeWithin searchTree planTree degreeOver constantsOver pathTo pathsFrom
+p6 = record { tree = refl; degree = refl; constants = refl; divisor = refl; ways = refl }
+
+-- P10 one Nop: D=0, K=0, F=1
+pub p10 : Planning (1 ∷ 0 ∷ 0 ∷ []) 1 (leaf 0) 0 0 1 ([] ∷ [])
+unfolding constantsOf degreeAt exponentFrom planTree degreeOver constantsOver pathTo pathsFrom
+p10 = record { tree = refl; degree = refl; constants = refl; divisor = refl; ways = refl }
+
+-- "64 gates (0,2,0) placed at target 8; 65 give 8": no tree at half that target, and none at all for 65
+unfoldable pub alike : ℕ → List ℕ
+alike zero = []
+alike (suc k) = 0 ∷ 2 ∷ 0 ∷ alike k
+
+abbrev pub nodesOf : Option Tree → ℕ
+nodesOf none = 0
+nodesOf (some t) = size t
+
+pub sixty-four : (nodesOf (planTree 0 (alike 64) 64) ≡ 127) × (firstTarget (treeWithin 0 (alike 64) (placedGates (alike 64) 64) 0) (targets - 1) 1 ≡ none) × (planTree 0 (alike 65) 65 ≡ none)
+unfolding alike constantsOf degreeAt placedFrom comesBefore inserted sorted greatest exponentFrom offer offerAll grown mayStand firstBound firstTarget treeWithin searchTree planTree
+sixty-four = (refl, refl, refl)

@@ -1,0 +1,22 @@
+-- 01, 'Gates and tree', and the refusals of gate words and plans: the mathematics, with no code. First the definitions in 01's order, then laws.
+pub mod Gates
+pub mod Tree
+pub mod Search
+pub mod Paths
+pub mod Nodes
+pub mod Refusals
+pub mod MadeUp
+pub mod Examples
+pub mod SortLaws
+pub mod RecordLaws
+pub mod GrowthLaws
+pub mod SearchLaws
+pub mod NodeLaws
+pub mod MadeUpLaws
+pub mod PathLaws
+pub mod Products
+pub mod Flat
+pub mod FlatLaws
+pub mod RunLaws
+pub mod Walk
+pub mod WalkLaws

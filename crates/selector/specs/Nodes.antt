@@ -1,0 +1,50 @@
+-- 01, 'Box tree: nodes in a flat array, children after parents'. A node is three words: left, right, gate; a left word 0 is a leaf, since node 0 is
+-- nobody's child. The plan's node words are its tree in preorder over zeros.
+--
+-- Main definitions: `laid`, `treeAt`, `Holds`.
+use Prim.Native.Nat.{_*_, _+_, _<_, suc, zero, ℕ}
+use lib.Dec.{eqb}
+use lib.ListN.{getD, replicate, set}
+use mathlib.Core.List.{List}
+use mathlib.Core.Option.{Option, none, some}
+use mathlib.Core.Path.{_≡_}
+use Rattle.base.specs.Pick.{pick}
+use Rattle.selector.specs.Tree.{Tree, fork, leaf, size}
+
+abbrev pub leftAt : List ℕ → ℕ → ℕ
+leftAt ns i = getD ns (i * 3) 0
+
+abbrev pub rightAt : List ℕ → ℕ → ℕ
+rightAt ns i = getD ns (i * 3 + 1) 0
+
+abbrev pub gateAt : List ℕ → ℕ → ℕ
+gateAt ns i = getD ns (i * 3 + 2) 0
+
+-- a node's three words written
+abbrev pub put : List ℕ → ℕ → ℕ → ℕ → ℕ → List ℕ
+put ns i l r g = set (set (set ns (i * 3) l) (i * 3 + 1) r) (i * 3 + 2) g
+
+-- a tree in preorder from node i on, written over ns: a fork's left side starts at the next node, its right side behind that
+unfoldable pub laid : Tree → ℕ → List ℕ → List ℕ
+laid (leaf g) i ns = put ns i 0 0 g
+laid (fork l r) i ns = laid r (i + 1 + size l) (put (laid l (i + 1) ns) i (i + 1) (i + 1 + size l) 0)
+
+-- the node words of a plan with tree t; unused words are 0
+abbrev pub nodeWords : Tree → List ℕ
+nodeWords t = laid t 0 (replicate 765 0)
+
+abbrev pub bothSides : Option Tree → Option Tree → Option Tree
+bothSides (some l) (some r) = some (fork l r)
+bothSides (some l) none = none
+bothSides none q = none
+
+-- the tree at node i, none where it is f deep or more
+unfoldable pub treeAt : ℕ → List ℕ → ℕ → Option Tree
+treeAt zero ns i = none
+treeAt (suc f) ns i =
+    pick (eqb (leftAt ns i) 0) (some (leaf (gateAt ns i))) (bothSides (treeAt f ns (leftAt ns i)) (treeAt f ns (rightAt ns i)))
+
+-- the first n of the nodes hold the tree at node i
+abbrev pub Holds : List ℕ → ℕ → ℕ → Tree → Type 0
+Holds ns n i (leaf g) = (i < n) × (leftAt ns i ≡ 0) × (gateAt ns i ≡ g)
+Holds ns n i (fork l r) = (i < n) × (leftAt ns i ≡ 0 → ⊥) × Holds ns n (leftAt ns i) l × Holds ns n (rightAt ns i) r

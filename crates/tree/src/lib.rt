@@ -1,0 +1,5 @@
+// 01, 'Gates and tree': parameters, gates, the search for a tree, plans and paths.
+mod gates;
+mod nodes;
+mod order;
+mod search;

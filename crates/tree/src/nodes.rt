@@ -1,0 +1,136 @@
+// The plan's node words: the tree in preorder, with D and K.
+ghost use mathlib.Core.Path.{_≡_};
+ghost use Prim.Native.Nat.{ℕ, _+_, _≤_, _<_};
+ghost use Rattle.selector.specs.Refusals.{Sound};
+ghost use Rattle.selector.specs.Tree.{Tree, depth};
+ghost use Rattle.selector.specs.Search.{planTree};
+ghost use Rattle.selector.specs.Nodes.{put, Holds};
+ghost use Rattle.tree.specs.Shapes.{Room, Done, shapeOf};
+use crate::gates::constants_of;
+use crate::gates::degree_at_depth;
+use crate::gates::factor_of;
+use crate::search::compute_placement;
+
+// Writes a node's three words.
+pub fn put_node(nodes: &mut [u64; 765], at: usize, left: u64, right: u64, gate: u64)
+    requires { ⌜ at < 255 ⌝ }
+    ensures { λ _. ⌜ now (nodes .exit) ≡ put (now (nodes .entry)) at left right gate ⌝ }
+{
+    nodes[at * 3] = left;
+    nodes[at * 3 + 1] = right;
+    nodes[at * 3 + 2] = gate;
+}
+
+// What is laid out so far: the next node, the greatest degree at depth and the greatest constants plus depth.
+pub struct Stats {
+    pub next: usize,
+    pub degree: u64,
+    pub constants: u64,
+}
+
+// A tree's node words, and its D, K and F; all zeros where there is no tree.
+pub struct Shape {
+    pub nodes: [u64; 765],
+    pub count: u64,
+    pub degree: u64,
+    pub constants: u64,
+    pub factor: u64,
+}
+
+// The tree at node `at` of `old` goes to `new` in preorder from `stats.next` on, and its stats with it.
+fn lay<'a>(
+    gates: &'a [u64],
+    old: &'a [u64; 765],
+    new: &mut [u64; 765],
+    many: usize,
+    at: usize,
+    level: u64,
+    levels: u64,
+    extra: u64,
+    stats: Stats,
+) -> Stats
+    requires { ⌜ Sound (now gates) many extra ⌝ }
+    requires { ⌜ Room many (now old) at levels (stats .next) ⌝ }
+    requires { ⌜ level + levels ≤ 100 ⌝ }
+    ensures { λ r. ⌜ ((t : Tree) → Holds (now (old .entry)) 255 at t → depth t < levels → Done extra (now (gates .entry)) level t stats (now (new .entry)) (now (new .exit)) r) ⌝ }
+{
+    if levels == 0 {
+        return stats;
+    }
+    let next = stats.next;
+    let left = old[at * 3] as usize;
+    if left == 0 {
+        let gate = old[at * 3 + 2];
+        put_node(new, next, 0, 0, gate);
+        let degree = base::greater(stats.degree, degree_at_depth(gates, gate, level));
+        let constants = base::greater(stats.constants, constants_of(gates, gate, extra) + level);
+        return Stats {
+            next: next + 1,
+            degree: degree,
+            constants: constants,
+        };
+    }
+    let inner = Stats {
+        next: next + 1,
+        degree: stats.degree,
+        constants: stats.constants,
+    };
+    let done = lay(
+        gates,
+        old,
+        new,
+        many,
+        left,
+        level + 1,
+        levels - 1,
+        extra,
+        inner,
+    );
+    let after = done.next;
+    let right = old[at * 3 + 1] as usize;
+    put_node(new, next, (next + 1) as u64, after as u64, 0);
+    lay(
+        gates,
+        old,
+        new,
+        many,
+        right,
+        level + 1,
+        levels - 1,
+        extra,
+        done,
+    )
+}
+
+// The shape of a list of gates.
+pub fn shape_of(gates: &[u64], many: usize, extra: u64) -> Shape
+    requires { ⌜ Sound (now gates) many extra ⌝ }
+    ensures { λ r. ⌜ r ≡ shapeOf extra (now (gates .entry)) (planTree extra (now (gates .entry)) many) ⌝ }
+{
+    let mut old = [0; 765];
+    let mut new = [0; 765];
+    let count = compute_placement(gates, &mut old, many, extra);
+    if count == 0 {
+        return Shape {
+            nodes: new,
+            count: 0,
+            degree: 0,
+            constants: 0,
+            factor: 0,
+        };
+    }
+    let none = Stats {
+        next: 0,
+        degree: 0,
+        constants: 0,
+    };
+    let done = lay(gates, &old, &mut new, many, 0, 0, 33, extra, none);
+    let factor = factor_of(done.degree);
+    Shape {
+        nodes: new,
+        count: done.next as u64,
+        degree: done.degree,
+        constants: done.constants,
+        factor: factor,
+    }
+}
