@@ -1,7 +1,8 @@
 // 01, 'Columns by pieces': constant, copy and table columns, given in pieces.
 mod cells;
-mod constants;
 mod finishing;
 mod records;
+mod rows;
+mod s_words;
 mod tables;
 mod variable;

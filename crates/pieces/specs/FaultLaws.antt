@@ -5,19 +5,20 @@ use mathlib.Core.Path.{_≡_, refl, ap, _∙_}
 use mathlib.Core.Logic.{_≢_}
 use mathlib.Core.Bool.{Bool, true, false}
 use mathlib.Core.List.{List, [], _∷_}
-use Prim.Native.Nat.{ℕ, suc, _+_, _≤_, _<_}
+use Prim.Native.Nat.{ℕ, suc, _+_, _-_, _≤_, _<_}
+use native.Mathlib.Decide.{decLe}
 use native.Mathlib.Omega.{arith}
-use lib.ListN.{length}
+use lib.ListN.{length, getD}
 use lib.Dec.{ltb, leb, eqb}
 use borrow.Author.Tests.{lt-ltb, le-ltb, le-leb, lt-leb, eq-eqb, ne-eqb, ltb-true, leb-true, eqb-true}
 use Rattle.base.specs.Pick.{pick, pick-zero}
 use Rattle.field.specs.Field.{p}
 use Rattle.pieces.specs.Setting.{mostTables}
-use Rattle.pieces.specs.Records.{Read, whole, cut, firstFault, allBelow}
+use Rattle.pieces.specs.Records.{Read, whole, cut, rowSize, front, firstFault, allBelow}
 use Rattle.pieces.specs.Rows.{rowFault, rowsFault}
 use Rattle.pieces.specs.SWords.{sWordFault, sWordsFault}
 use Rattle.pieces.specs.Tables.{Stack, rowsIn, stackNext, tableFault, tablesFault, sumRows}
-use Rattle.pieces.specs.RecordLaws.{fault-head}
+use Rattle.pieces.specs.RecordLaws.{fault-head, front-cut, front-whole}
 
 -- ---- rows
 pub record RowFine (many : ℕ) (own : ℕ → ℕ) (N r g n : ℕ) (cs : List ℕ) : Type 0 where
@@ -60,6 +61,21 @@ module _ (many : ℕ) (own : ℕ → ℕ) (N r : ℕ) where
         let c = pick-zero (allBelow p cs) (pick (ltb r N) 0 13) 11 (λ q. omega arith) (b .1) in
         let d = pick-zero (ltb r N) 0 13 (λ q. omega arith) (c .1) in
         record { known = ltb-true g many (a .0); few = leb-true n (own g) (b .0); small = c .0; room = ltb-true r N (d .0) }
+
+-- the record at the front of the words, by its first word and by its second: cut short or not, the number is 12
+module _ (many : ℕ) (own : ℕ → ℕ) (N r : ℕ) (ws : List ℕ) (two : 2 ≤ length ws) where
+  row-front : ((cs : List ℕ) → rowFault many own N r (whole (getD ws 0 0) (getD ws 1 0) cs) ≡ 12) → rowFault many own N r (front rowSize ws) ≡ 12
+  row-front h = go (decLe (getD ws 1 0) (length ws - 2))
+    where
+      go : Dec (getD ws 1 0 ≤ length ws - 2) → rowFault many own N r (front rowSize ws) ≡ 12
+      go (yes k) = ap (rowFault many own N r) (front-whole rowSize ws two k) ∙ h _
+      go (no k) = ap (rowFault many own N r) (front-cut rowSize ws two (omega arith)) ∙ row-cut many own N r
+
+  pub front-unknown : many ≤ getD ws 0 0 → rowFault many own N r (front rowSize ws) ≡ 12
+  front-unknown h = row-front (λ cs. row-unknown many own N r (getD ws 0 0) (getD ws 1 0) cs h)
+
+  pub front-long : getD ws 0 0 < many → own (getD ws 0 0) < getD ws 1 0 → rowFault many own N r (front rowSize ws) ≡ 12
+  front-long h k = row-front (λ cs. row-long many own N r (getD ws 0 0) (getD ws 1 0) cs h k)
 
 -- a piece of rows without a fault fits the trace
 pub rows-room : (many : ℕ) (own : ℕ → ℕ) (N r : ℕ) (ts : List Read) → r ≤ N → rowsFault many own N r ts ≡ 0 → r + length ts ≤ N

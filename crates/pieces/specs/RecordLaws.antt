@@ -2,7 +2,7 @@
 --
 -- Main definitions: `Each`, `Whole`, `Sized`, `Rest` (the records that a loop has still to read).
 -- Main statements: `fault-head`, `fault-each` (what no fault says), `read-append` (pieces put end to end), and for loops `first-turn`, `count-turn`, `first-found`, `first-done`,
--- `rest-begin`, `rest-whole`, `rest-cut`, `rest-done`, `below-turn`.
+-- `rest-begin`, `rest-whole`, `rest-cut`, `rest-done`, `rest-front`, `below-turn`.
 use mathlib.Core.Path.{_≡_, refl, sym, ap, _∙_}
 use mathlib.Core.Logic.{_≢_}
 use mathlib.Core.Bool.{Bool, true, false}
@@ -10,7 +10,7 @@ use mathlib.Core.List.{List, [], _∷_, _++_}
 use Prim.Native.Nat.{ℕ, zero, suc, _+_, _-_, _≤_, _<_}
 use native.Mathlib.Nat.{not-suc-le-zero, le-of-suc-le-suc}
 use native.Mathlib.Numerals.{add-one}
-use native.Mathlib.Decide.{ℕ-discrete, decLe}
+use native.Mathlib.Decide.{ℕ-discrete, decLe, decLt}
 use native.Mathlib.Omega.{arith}
 use lib.ListN.{length, getD, take, drop, length-drop, length-append}
 use lib.Seq.{length-take-le, drop-append-le, take-append-le, drop-drop, getD-drop}
@@ -18,7 +18,7 @@ use lib.Dec.{ltb, leb, eqb}
 use borrow.Author.Tests.{lt-ltb, le-ltb, le-leb, lt-leb, eq-eqb, ne-eqb}
 use Rattle.base.specs.Pick.{pick}
 use Rattle.base.specs.Drops.{drop-none, drop-one, drop-two, drop-last}
-use Rattle.pieces.specs.Records.{Read, whole, cut, readBy, firstFault, allBelow}
+use Rattle.pieces.specs.Records.{Read, whole, cut, readBy, front, firstFault, allBelow}
 
 -- ---- each of a list
 abbrev pub Each : {X : Type 0} → (X → Type 0) → List X → Type 0
@@ -43,6 +43,14 @@ module _ {S X : Type 0} (fault : S → X → ℕ) (next : S → X → S) where
       go : Dec (fault s x ≡ 0) → (fault s x ≡ 0) × (firstFault fault next (next s x) xs ≡ 0)
       go (yes z) = (z, rw (eq-eqb (fault s x) 0 z) at e)
       go (no d) = absurd (d (rw (ne-eqb (fault s x) 0 d) at e))
+
+  pub fault-here : (s : S) (x : X) (xs : List X) → fault s x ≢ 0 → firstFault fault next s (x ∷ xs) ≡ fault s x
+  unfolding firstFault
+  fault-here s x xs d = rw (ne-eqb (fault s x) 0 d)
+
+  pub fault-later : (s : S) (x : X) (xs : List X) → fault s x ≡ 0 → firstFault fault next s (x ∷ xs) ≡ firstFault fault next (next s x) xs
+  unfolding firstFault
+  fault-later s x xs e = rw (eq-eqb (fault s x) 0 e)
 
   pub fault-each : (P : X → Type 0) → ((s : S) (x : X) → fault s x ≡ 0 → P x) → (s : S) (xs : List X) → firstFault fault next s xs ≡ 0 → Each P xs
   fault-each P good s [] e = tt
@@ -153,6 +161,44 @@ pub record Rest (size : ℕ → ℕ → ℕ) (ws : List ℕ) (i : ℕ) (rs : Lis
   pub enough : length ws - i ≤ turns
   pub are : rs ≡ readBy size turns (drop i ws)
 
+-- ---- the record at the front
+module _ (size : ℕ → ℕ → ℕ) (ws : List ℕ) where
+  pub front-short : length ws < 2 → front size ws ≡ cut
+  unfolding front
+  front-short h = rw (lt-leb 2 (length ws) h)
+
+  pub front-cut : 2 ≤ length ws → length ws - 2 < size (getD ws 0 0) (getD ws 1 0) → front size ws ≡ cut
+  unfolding front
+  front-cut h k = rw (le-leb 2 (length ws) h, lt-leb (size (getD ws 0 0) (getD ws 1 0)) (length ws - 2) k)
+
+  pub front-whole : 2 ≤ length ws → size (getD ws 0 0) (getD ws 1 0) ≤ length ws - 2
+      → front size ws ≡ whole (getD ws 0 0) (getD ws 1 0) (take (size (getD ws 0 0) (getD ws 1 0)) (drop 2 ws))
+  unfolding front
+  front-whole h k = rw (le-leb 2 (length ws) h, le-leb (size (getD ws 0 0) (getD ws 1 0)) (length ws - 2) k)
+
+-- the same, of the words from i on
+module _ (size : ℕ → ℕ → ℕ) (ws : List ℕ) (i : ℕ) where
+  first-word : getD (drop i ws) 0 0 ≡ getD ws i 0
+  first-word = let z : i + 0 ≡ i = omega arith in rw z at (getD-drop i ws 0 0)
+
+  second-word : getD (drop i ws) 1 0 ≡ getD ws (i + 1) 0
+  second-word = getD-drop i ws 1 0
+
+  pub front-at : i + 1 < length ws → size (getD ws i 0) (getD ws (i + 1) 0) ≤ length ws - (i + 2)
+      → front size (drop i ws) ≡ whole (getD ws i 0) (getD ws (i + 1) 0) (take (size (getD ws i 0) (getD ws (i + 1) 0)) (drop (i + 2) ws))
+  front-at h k =
+      let l = length-drop i ws in
+      let k' : size (getD (drop i ws) 0 0) (getD (drop i ws) 1 0) ≤ length (drop i ws) - 2 = rw (first-word, second-word) (omega arith) in
+      rw (first-word, second-word, drop-drop 2 i ws) at (front-whole size (drop i ws) (omega arith) k')
+
+  pub front-at-cut : i + 1 < length ws → length ws - (i + 2) < size (getD ws i 0) (getD ws (i + 1) 0) → front size (drop i ws) ≡ cut
+  front-at-cut h k =
+      let l = length-drop i ws in
+      front-cut size (drop i ws) (omega arith) (rw (first-word, second-word) (omega arith))
+
+  pub front-at-short : length ws ≤ i + 1 → front size (drop i ws) ≡ cut
+  front-at-short h = front-short size (drop i ws) (omega (arith, length-drop i ws))
+
 -- one whole record, and those after it
 pub record Next (size : ℕ → ℕ → ℕ) (ws : List ℕ) (i : ℕ) (rs : List Read) : Type 0 where
   pub later : List Read
@@ -212,3 +258,82 @@ module _ (size : ℕ → ℕ → ℕ) (ws : List ℕ) where
     rest-short h k =
         let f : r .turns ≡ suc (r .turns - 1) = omega (arith, r .enough) in
         r .are ∙ ap (λ (t : ℕ). readBy size t (drop i ws)) f ∙ ap (readBy size (suc (r .turns - 1))) (drop-last ws i h k) ∙ one-left (r .turns - 1) (getD ws i 0)
+
+    -- the records begin with the one at the front
+    pub rest-front : i < length ws → (later : List Read) × (rs ≡ front size (drop i ws) ∷ later)
+    rest-front h = go (decLt (i + 1) (length ws)) (decLe (size (getD ws i 0) (getD ws (i + 1) 0)) (length ws - (i + 2)))
+      where
+        go : Dec (i + 1 < length ws) → Dec (size (getD ws i 0) (getD ws (i + 1) 0) ≤ length ws - (i + 2)) → (later : List Read) × (rs ≡ front size (drop i ws) ∷ later)
+        go (no p) q = ([], rest-short h (omega arith) ∙ ap (λ (t : Read). t ∷ []) (sym (front-at-short size ws i (omega arith))))
+        go (yes p) (no q) = ([], rest-cut p (omega arith) ∙ ap (λ (t : Read). t ∷ []) (sym (front-at-cut size ws i p (omega arith))))
+        go (yes p) (yes q) = let n = rest-whole p q in (n .later, n .split ∙ ap (λ (t : Read). t ∷ n .later) (sym (front-at size ws i p q)))
+
+-- a record at the front that is not cut short
+pub record Uncut (size : ℕ → ℕ → ℕ) (ws : List ℕ) (i : ℕ) : Type 0 where
+  pub two : i + 1 < length ws
+  pub fits : size (getD ws i 0) (getD ws (i + 1) 0) ≤ length ws - (i + 2)
+  pub is : front size (drop i ws) ≡ whole (getD ws i 0) (getD ws (i + 1) 0) (take (size (getD ws i 0) (getD ws (i + 1) 0)) (drop (i + 2) ws))
+
+pub uncut : (size : ℕ → ℕ → ℕ) (ws : List ℕ) (i : ℕ) → front size (drop i ws) ≢ cut → Uncut size ws i
+uncut size ws i d = go (decLt (i + 1) (length ws)) (decLe (size (getD ws i 0) (getD ws (i + 1) 0)) (length ws - (i + 2)))
+  where
+    go : Dec (i + 1 < length ws) → Dec (size (getD ws i 0) (getD ws (i + 1) 0) ≤ length ws - (i + 2)) → Uncut size ws i
+    go (no p) q = absurd (d (front-at-short size ws i (omega arith)))
+    go (yes p) (no q) = absurd (d (front-at-cut size ws i p (omega arith)))
+    go (yes p) (yes q) = record { two = p; fits = q; is = front-at size ws i p q }
+
+-- ---- a loop that looks for the first fault of a piece's records
+module _ (size : ℕ → ℕ → ℕ) {S : Type 0} (fault : S → Read → ℕ) (next : S → Read → S) (ws : List ℕ) where
+  pub record Looking (first s : S) (i : ℕ) : Type 0 where
+    pub within : i ≤ length ws
+    pub left : List Read
+    pub rest : Rest size ws i left
+    pub same : firstFault fault next first (readBy size (length ws) ws) ≡ firstFault fault next s left
+
+  pub looking-begin : (s : S) → Looking s s 0
+  looking-begin s = record { within = omega arith; left = readBy size (length ws) ws; rest = rest-begin size ws; same = refl }
+
+  none-left-fault : (s : S) → firstFault fault next s [] ≡ 0
+  unfolding firstFault
+  none-left-fault s = refl
+
+  pub looking-done : (first s : S) (i : ℕ) → Looking first s i → length ws ≤ i → firstFault fault next first (readBy size (length ws) ws) ≡ 0
+  looking-done first s i l h = l .same ∙ ap (firstFault fault next s) (rest-done size ws i (l .left) (l .rest) h) ∙ none-left-fault s
+
+  pub looking-found : (first s : S) (i : ℕ) → Looking first s i → i < length ws → fault s (front size (drop i ws)) ≢ 0
+      → firstFault fault next first (readBy size (length ws) ws) ≡ fault s (front size (drop i ws))
+  looking-found first s i l h d =
+      let f = rest-front size ws i (l .left) (l .rest) h in
+      l .same ∙ ap (firstFault fault next s) (f .1) ∙ fault-here fault next s (front size (drop i ws)) (f .0) d
+
+  pub looking-next : (first s : S) (i : ℕ) → Looking first s i → fault s cut ≢ 0 → fault s (front size (drop i ws)) ≡ 0
+      → Looking first (next s (front size (drop i ws))) (i + 2 + size (getD ws i 0) (getD ws (i + 1) 0))
+  looking-next first s i l bad e =
+      let u = uncut size ws i (λ q. bad (ap (fault s) (sym q) ∙ e)) in
+      let n = rest-whole size ws i (l .left) (l .rest) (u .two) (u .fits) in
+      let split : l .left ≡ front size (drop i ws) ∷ n .later = n .split ∙ ap (λ (t : Read). t ∷ n .later) (sym (u .is)) in
+      record {
+        within = omega (arith, u .two, u .fits);
+        left = n .later;
+        rest = n .rest;
+        same = l .same ∙ ap (firstFault fault next s) split ∙ fault-later fault next s (front size (drop i ws)) (n .later) e;
+      }
+
+  -- a loop over records without a fault: the one at the front, and those after it
+  pub record Going (s : S) (i : ℕ) (left : List Read) : Type 0 where
+    pub two : i + 1 < length ws
+    pub fits : size (getD ws i 0) (getD ws (i + 1) 0) ≤ length ws - (i + 2)
+    pub later : List Read
+    pub split : left ≡ whole (getD ws i 0) (getD ws (i + 1) 0) (take (size (getD ws i 0) (getD ws (i + 1) 0)) (drop (i + 2) ws)) ∷ later
+    pub rest : Rest size ws (i + 2 + size (getD ws i 0) (getD ws (i + 1) 0)) later
+    pub good : fault s (whole (getD ws i 0) (getD ws (i + 1) 0) (take (size (getD ws i 0) (getD ws (i + 1) 0)) (drop (i + 2) ws))) ≡ 0
+    pub fine : firstFault fault next (next s (whole (getD ws i 0) (getD ws (i + 1) 0) (take (size (getD ws i 0) (getD ws (i + 1) 0)) (drop (i + 2) ws)))) later ≡ 0
+
+  pub going : (s : S) (i : ℕ) (left : List Read) → Rest size ws i left → fault s cut ≢ 0 → firstFault fault next s left ≡ 0 → i < length ws → Going s i left
+  going s i left r bad e h =
+      let f = rest-front size ws i left r h in
+      let k = fault-head fault next s (front size (drop i ws)) (f .0) (ap (firstFault fault next s) (sym (f .1)) ∙ e) in
+      let u = uncut size ws i (λ q. bad (ap (fault s) (sym q) ∙ k .0)) in
+      let n = rest-whole size ws i left r (u .two) (u .fits) in
+      let j = fault-head fault next s _ (n .later) (ap (firstFault fault next s) (sym (n .split)) ∙ e) in
+      record { two = u .two; fits = u .fits; later = n .later; split = n .split; rest = n .rest; good = j .0; fine = j .1 }

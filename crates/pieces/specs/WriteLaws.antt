@@ -1,7 +1,7 @@
 -- Laws of writing: words in place, lines in columns.
 --
 -- Main definition: `Reads` (what columns hold). Main statements: `put-at`, `put-other`, `padded-at`, `lines-reads` (lines put end to end),
--- `lines-other` (words of other columns are kept), and for loops `put-turn`, `put-done`.
+-- `lines-other` (words of other columns are kept), `put-line` (a line in parts), and for loops `put-turn`, `put-done`.
 use mathlib.Core.Path.{_≡_, refl, sym, ap, _∙_}
 use mathlib.Core.Logic.{_≢_}
 use mathlib.Core.List.{List, [], _∷_, _++_, append-assoc, append-nil}
@@ -10,7 +10,7 @@ use native.Mathlib.Nat.{not-suc-le-zero, le-of-suc-le-suc, mul-le-mul-right}
 use native.Mathlib.Numerals.{add-one}
 use native.Mathlib.Decide.{ℕ-discrete, decLt}
 use native.Mathlib.Omega.{arith}
-use lib.ListN.{length, getD, set, drop, length-set, length-append, List·getD-append, List·getD-eq-default}
+use lib.ListN.{length, getD, set, drop, replicate, length-set, length-append, List·getD-append, List·getD-eq-default}
 use lib.Seq.{getD-set-same, getD-set-other, getD-append-seam, drop-cons}
 use Rattle.base.specs.Drops.{drop-none, drop-one}
 use Rattle.pieces.specs.Writing.{put, padded, putLines}
@@ -124,3 +124,33 @@ put-turn d b k ws i h = ap (put d b k) (drop-one ws i h)
 pub put-done : (d : ℕ) (b : List ℕ) (k : ℕ) (ws : List ℕ) (i : ℕ) → length ws ≤ i → put d b k (drop i ws) ≡ b
 unfolding put
 put-done d b k ws i h = ap (put d b k) (drop-none ws i h)
+
+-- ---- a line in parts: what comes first, what follows, then zeros
+pub put-append : (d : ℕ) (b : List ℕ) (i : ℕ) (xs ys : List ℕ) → put d b i (xs ++ ys) ≡ put d (put d b i xs) (i + length xs * d) ys
+unfolding put
+put-append d b i [] ys = let z : i + 0 * d ≡ i = omega arith in rw z
+put-append d b i (x ∷ xs) ys =
+    let z : i + d + length xs * d ≡ i + suc (length xs) * d = omega arith in
+    rw z at (put-append d (set b i x) (i + d) xs ys)
+
+pub padded-split : (n : ℕ) (ws : List ℕ) → length ws ≤ n → padded n ws ≡ ws ++ replicate (n - length ws) 0
+unfolding padded
+padded-split zero [] h = refl
+padded-split zero (w ∷ ws) h = absurd (not-suc-le-zero h)
+padded-split (suc n) [] h =
+    let y : suc n - 0 ≡ suc n = omega arith in
+    let z : n - 0 ≡ n = omega arith in
+    rw y (ap (λ (l : List ℕ). 0 ∷ l) (rw z at (padded-split n [] (omega arith))))
+padded-split (suc n) (w ∷ ws) h =
+    let z : suc n - suc (length ws) ≡ n - length ws = omega arith in
+    rw z (ap (λ (l : List ℕ). w ∷ l) (padded-split n ws (omega arith)))
+
+-- one line: its first part, its second part, and zeros up to k words
+pub put-line : (k N : ℕ) (b : List ℕ) (r : ℕ) (xs ys : List ℕ) → length xs + length ys ≤ k
+    → put N b r (padded k (xs ++ ys))
+    ≡ put N (put N (put N b r xs) (r + length xs * N) ys) (r + (length xs + length ys) * N) (replicate (k - (length xs + length ys)) 0)
+put-line k N b r xs ys h =
+    let l = length-append xs ys in
+    let e : r + length xs * N + length ys * N ≡ r + (length xs + length ys) * N = omega arith in
+    ap (put N b r) (padded-split k (xs ++ ys) (omega arith)) ∙ put-append N b r (xs ++ ys) (replicate (k - length (xs ++ ys)) 0)
+    ∙ rw (l, put-append N b r xs ys)
