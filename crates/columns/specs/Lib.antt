@@ -1,3 +1,4 @@
 -- 01, 'Columns by pieces': what the code's types mean in the definitions of `pieces`.
 pub mod Digits
 pub mod Placed
+pub mod Stacked

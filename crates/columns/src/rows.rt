@@ -7,7 +7,7 @@ ghost use Rattle.pieces.specs.Records.{rowSize, front, rowsOf};
 ghost use Rattle.pieces.specs.Writing.{put, padded, putLines};
 ghost use Rattle.pieces.specs.Rows.{rowFault, rowsFault, rowLines, marked};
 ghost use Rattle.columns.specs.Digits.{Spelled};
-ghost use Rattle.columns.specs.Placed.{Placements};
+ghost use Rattle.columns.specs.Placed.{Spells, Fits};
 use crate::records::all_below;
 use crate::records::write_path;
 use crate::records::write_words;
@@ -85,4 +85,53 @@ fn write_row(
         height - filled,
         constants,
     );
+}
+
+// The path and the number of constants of each gate, as the rows of a call need them.
+pub struct GateRows {
+    pub many: u64,
+    pub bits: [u64; 128],
+    pub steps: [u64; 128],
+    pub own: [u64; 128],
+}
+
+// The records of a piece without a fault, in the rows from `count` on; their gates are marked.
+pub fn write_rows(
+    height: u64,
+    trace: u64,
+    count: u64,
+    gates: GateRows,
+    piece: &[u64],
+    used: &mut [u64; 128],
+    constants: &mut [u64],
+) -> u64
+    requires { ⌜ (trace ≤ 65536) × (height ≤ 64) × (gates .many ≤ 128) × (height * trace ≤ length (now constants)) ⌝ }
+    requires { ⌜ Fits (gates .many) height (gates .own) (gates .steps) ⌝ }
+    requires { ⌜ rowsFault (gates .many) (λ (g : ℕ). getD (gates .own) g 0) trace count (rowsOf (now piece)) ≡ 0 ⌝ }
+    ensures { λ r. ⌜ r ≡ count + length (rowsOf (now (piece .entry))) ⌝ }
+    ensures { λ _. ⌜ now (used .exit) ≡ marked (now (used .entry)) (rowsOf (now (piece .entry))) ⌝ }
+    ensures { λ _. ⌜ ((path : ℕ → List ℕ) → Spells (gates .many) path (gates .bits) (gates .steps) → now (constants .exit) ≡ putLines height trace count (rowLines path (rowsOf (now (piece .entry)))) (now (constants .entry))) ⌝ }
+{
+    let bits = gates.bits;
+    let steps = gates.steps;
+    let mut row = count;
+    let mut i = 0;
+    while i < piece.len() {
+        let g = piece[i] as usize;
+        let start = i + 2;
+        let end = start + piece[i + 1] as usize;
+        write_row(
+            height,
+            trace as usize,
+            row as usize,
+            bits[g],
+            steps[g],
+            &piece[start..end],
+            constants,
+        );
+        used[g] = 1;
+        row = row + 1;
+        i = end;
+    }
+    row
 }

@@ -5,7 +5,7 @@ use mathlib.Core.Path.{_≡_, refl, ap, _∙_}
 use mathlib.Core.Logic.{_≢_}
 use mathlib.Core.Bool.{Bool, true, false}
 use mathlib.Core.List.{List, [], _∷_}
-use Prim.Native.Nat.{ℕ, suc, _+_, _-_, _≤_, _<_}
+use Prim.Native.Nat.{ℕ, suc, _+_, _-_, _*_, _≤_, _<_}
 use native.Mathlib.Decide.{decLe}
 use native.Mathlib.Omega.{arith}
 use lib.ListN.{length, getD}
@@ -14,7 +14,7 @@ use borrow.Author.Tests.{lt-ltb, le-ltb, le-leb, lt-leb, eq-eqb, ne-eqb, ltb-tru
 use Rattle.base.specs.Pick.{pick, pick-zero}
 use Rattle.field.specs.Field.{p}
 use Rattle.pieces.specs.Setting.{mostTables}
-use Rattle.pieces.specs.Records.{Read, whole, cut, rowSize, front, firstFault, allBelow}
+use Rattle.pieces.specs.Records.{Read, whole, cut, rowSize, tableSize, front, firstFault, allBelow}
 use Rattle.pieces.specs.Rows.{rowFault, rowsFault}
 use Rattle.pieces.specs.SWords.{sWordFault, sWordsFault}
 use Rattle.pieces.specs.Tables.{Stack, rowsIn, stackNext, tableFault, tablesFault, sumRows}
@@ -165,6 +165,15 @@ module _ (lookup : Bool) (W N : ℕ) (s : Stack) where
         let d = pick-zero (leb (s .high + n) N) t4 15 (λ q. omega arith) (c .1) in
         let f = pick-zero (allBelow p cs) 0 11 (λ q. omega arith) (d .1) in
         record { looked = a .0; wide = eqb-true w W (b .0); few = ltb-true (s .count) mostTables (c .0); room = leb-true (s .high + n) N (d .0); small = f .0 }
+
+-- the record at the front of the words, by its first words: cut short or not, the number is 15
+module _ (lookup : Bool) (W N : ℕ) (s : Stack) (ws : List ℕ) (two : 2 ≤ length ws) where
+  pub table-front : ((cs : List ℕ) → tableFault lookup W N s (whole (getD ws 0 0) (getD ws 1 0) cs) ≡ 15) → tableFault lookup W N s (front tableSize ws) ≡ 15
+  table-front h = go (decLe (getD ws 0 0 * getD ws 1 0) (length ws - 2))
+    where
+      go : Dec (getD ws 0 0 * getD ws 1 0 ≤ length ws - 2) → tableFault lookup W N s (front tableSize ws) ≡ 15
+      go (yes k) = ap (tableFault lookup W N s) (front-whole tableSize ws two k) ∙ h _
+      go (no k) = ap (tableFault lookup W N s) (front-cut tableSize ws two (omega arith)) ∙ table-cut lookup W N s
 
 -- a piece of tables without a fault fits the trace, and 255 tables
 pub tables-room : (lookup : Bool) (W N : ℕ) (s : Stack) (ts : List Read) → s .high ≤ N → s .count ≤ mostTables → tablesFault lookup W N s ts ≡ 0

@@ -17,3 +17,4 @@ pub mod PermutationLaws
 pub mod FaultLaws
 pub mod ClosedForms
 pub mod NumberLaws
+pub mod LineLaws

@@ -10,7 +10,7 @@ use native.Mathlib.Nat.{not-suc-le-zero, le-of-suc-le-suc, mul-le-mul-right}
 use native.Mathlib.Numerals.{add-one}
 use native.Mathlib.Decide.{ℕ-discrete, decLt}
 use native.Mathlib.Omega.{arith}
-use lib.ListN.{length, getD, set, drop, replicate, length-set, length-append, List·getD-append, List·getD-eq-default}
+use lib.ListN.{length, getD, set, take, drop, replicate, length-set, length-append, List·getD-append, List·getD-eq-default}
 use lib.Seq.{getD-set-same, getD-set-other, getD-append-seam, drop-cons}
 use Rattle.base.specs.Drops.{drop-none, drop-one}
 use Rattle.pieces.specs.Writing.{put, padded, putLines}
@@ -154,3 +154,12 @@ put-line k N b r xs ys h =
     let e : r + length xs * N + length ys * N ≡ r + (length xs + length ys) * N = omega arith in
     ap (put N b r) (padded-split k (xs ++ ys) (omega arith)) ∙ put-append N b r (xs ++ ys) (replicate (k - length (xs ++ ys)) 0)
     ∙ rw (l, put-append N b r xs ys)
+
+pub padded-all : (n : ℕ) (ws : List ℕ) → length ws ≡ n → padded n ws ≡ ws
+padded-all n ws e = let z : n - length ws ≡ 0 = omega arith in padded-split n ws (omega arith) ∙ rw (z, append-nil)
+
+pub padded-take : (n : ℕ) (ws : List ℕ) → n ≤ length ws → padded n ws ≡ take n ws
+unfolding padded
+padded-take zero ws h = refl
+padded-take (suc n) [] h = absurd (not-suc-le-zero h)
+padded-take (suc n) (w ∷ ws) h = ap (λ (l : List ℕ). w ∷ l) (padded-take n ws (le-of-suc-le-suc h))
