@@ -16,9 +16,10 @@ use lib.Dec.{ltb, eqb}
 use borrow.Author.Tests.{lt-ltb, le-ltb, eq-eqb, ne-eqb, ltb-true}
 use Rattle.base.specs.Pick.{pick, pick-zero, both-true}
 use Rattle.base.specs.Drops.{drop-none, drop-one}
+use Rattle.field.specs.Field.{p}
 use Rattle.pieces.specs.Setting.{Cols, cols}
 use Rattle.pieces.specs.Cells.{placeholder, indexOf, cellFault, cellsFault, value, first, firstSeen, seenAgain, placeCell, cellsRun}
-use Rattle.pieces.specs.Finishing.{everyFrom, writeBack, finishFrom}
+use Rattle.pieces.specs.Finishing.{everyFrom, variableFine, writeBack, finishFrom}
 use Rattle.pieces.specs.RecordLaws.{fault-head}
 
 -- ---- one cell word, by its three cases
@@ -148,6 +149,13 @@ pub finish-length : (v m : ℕ) (scratch copies : List ℕ) → length (finishFr
 unfolding finishFrom
 finish-length v zero scratch copies = refl
 finish-length v (suc m) scratch copies = finish-length (suc v) m scratch (writeBack v scratch copies) ∙ write-length v scratch copies
+
+-- a seen variable that is fine has its first cell within
+pub fine-first : (cells : ℕ) (scratch : List ℕ) (v : ℕ) → variableFine cells scratch v ≡ true → getD scratch (2 * v) 0 ≢ 0 → getD scratch (2 * v + 1) 0 < cells
+unfolding variableFine
+fine-first cells scratch v e d =
+    let a = both-true (ltb (getD scratch (2 * v) 0) p) (pick (eqb (getD scratch (2 * v) 0) 0) true (ltb (getD scratch (2 * v + 1) 0) cells)) e in
+    ltb-true (getD scratch (2 * v + 1) 0) cells (rw (ne-eqb (getD scratch (2 * v) 0) 0 d) at (a .1))
 
 -- ---- a loop that tests numbers one by one
 module _ (n v : ℕ) (f : ℕ → Bool) where

@@ -13,7 +13,7 @@ use native.Mathlib.Omega.{arith}
 use lib.ListN.{length, getD, set, take, drop, replicate, length-set, length-append, List·getD-append, List·getD-eq-default}
 use lib.Seq.{getD-set-same, getD-set-other, getD-append-seam, drop-cons}
 use Rattle.base.specs.Drops.{drop-none, drop-one}
-use Rattle.pieces.specs.Writing.{put, padded, putLines}
+use Rattle.pieces.specs.Writing.{put, padded, putLines, cleared}
 
 -- ---- every d-th word
 pub put-length : (d : ℕ) (b : List ℕ) (i : ℕ) (ws : List ℕ) → length (put d b i ws) ≡ length b
@@ -163,3 +163,13 @@ unfolding padded
 padded-take zero ws h = refl
 padded-take (suc n) [] h = absurd (not-suc-le-zero h)
 padded-take (suc n) (w ∷ ws) h = ap (λ (l : List ℕ). w ∷ l) (padded-take n ws (le-of-suc-le-suc h))
+
+-- ---- a loop that zeroes words: one word more
+clear-next : (i : ℕ) (b : List ℕ) → i < length b → set (cleared i b) i 0 ≡ cleared (suc i) b
+clear-next zero [] h = absurd (not-suc-le-zero h)
+clear-next zero (x ∷ b) h = refl
+clear-next (suc i) [] h = absurd (not-suc-le-zero h)
+clear-next (suc i) (x ∷ b) h = ap (λ (l : List ℕ). 0 ∷ l) (clear-next i b (le-of-suc-le-suc h))
+
+pub clear-turn : (i : ℕ) (b : List ℕ) → i < length b → set (cleared i b) i 0 ≡ cleared (i + 1) b
+clear-turn i b h = rw add-one (clear-next i b h)
