@@ -64,7 +64,7 @@ never-both f a e = omega arith
 
 module _ (x : Setting) (b : Store) (R S C T : List ℕ) (h : Held) (i : Inv x b R S C T h) where
   -- the cells so far, of an open state
-  open-cells : h .state .phase ≡ isOpened → h .store .cells ≡ cellsRun 0 C (openCells x (b .cells))
+  pub open-cells : h .state .phase ≡ isOpened → h .store .cells ≡ cellsRun 0 C (openCells x (b .cells))
   open-cells o = go (i .phased)
     where
       go : Phased x b R S C h → h .store .cells ≡ cellsRun 0 C (openCells x (b .cells))

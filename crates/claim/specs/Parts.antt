@@ -16,23 +16,25 @@ use lib.Dec.{ltb, eqb}
 use borrow.Author.Tests.{eq-eqb, ne-eqb, lt-ltb}
 use Rattle.base.specs.Pick.{pick}
 use Rattle.field.specs.Field.{p}
-use Rattle.pieces.specs.Setting.{Setting, State, Store, Held, Cols, cols, constantRoom, copyRoom, scratchRoom, tableRoom, specialRoom}
+use Rattle.pieces.specs.Setting.{Setting, State, Store, Held, Cols, cols, constantRoom, copyRoom, scratchRoom, tableRoom, specialRoom, stands}
 use Rattle.pieces.specs.Records.{Read, whole, cut, rowSize, rowsOf, tablesOf}
 use Rattle.pieces.specs.Writing.{padded}
 use Rattle.pieces.specs.Opening.{openCells, fresh}
 use Rattle.pieces.specs.Rows.{rowLine, rowLines}
-use Rattle.pieces.specs.Cells.{placeholder, indexOf, cellsRun}
+use Rattle.pieces.specs.Cells.{placeholder, indexOf, cellsRun, roomForCells}
+use Rattle.pieces.specs.Finishing.{variableFine, scratchFine, complete, allUsed, finishNumber}
 use Rattle.pieces.specs.Tables.{entries, tableEntries, tableLines}
-use Rattle.pieces.specs.Calls.{Call, number, run}
+use Rattle.pieces.specs.Calls.{Call, finishing, number, run}
 use Rattle.pieces.specs.Permutation.{Names, Gap, Before, Permutation, ended}
 use Rattle.pieces.specs.WriteLaws.{Reads, padded-length, padded-at}
 use Rattle.pieces.specs.RecordLaws.{Each, each-at, Sized, read-sized}
-use Rattle.pieces.specs.CellLaws.{run-copies, finish-length}
-use Rattle.pieces.specs.PermutationLaws.{Opened, permutes}
+use Rattle.pieces.specs.CellLaws.{run-copies, finish-length, every-all}
+use Rattle.pieces.specs.PermutationLaws.{Opened, permutes, scratch-holds}
 use Rattle.pieces.specs.ClosedForms.{GoodRow, GoodTable, GoodCell, entries-many, Consts, Tabled}
 use Rattle.claim.specs.Statement.{Circuit, circuit, Finishes, product, factor, wordAt, noughts, RowOf, Stands, Has, SameColumns, Right}
 use Rattle.claim.specs.Planned.{Part, Digits, Planned}
-use Rattle.claim.specs.Invariant.{Closed, Inv, whole-inv, whole-closed}
+use Rattle.pieces.specs.NumberLaws.{stood}
+use Rattle.claim.specs.Invariant.{Closed, Inv, open-cells, whole-inv, whole-closed}
 
 -- ---- two lists that read alike begin alike
 pub take-same : (n : ℕ) (a b : List ℕ) → n ≤ length a → n ≤ length b → ((i : ℕ) → i < n → getD a i 0 ≡ getD b i 0) → take n a ≡ take n b
@@ -442,3 +444,58 @@ same x pl b d cs ds f g a =
       copies = rw (c .copies-are, w) (copies-same x pl (b .cells) (d .cells) _ (i .cells-good) (c .cells-all));
       tables = tables-same x _ _ _ (pl .some-rows) (i .tabled) u;
     }
+
+-- ---- finishing from a fresh opening on: the scratch words are labels and cells
+fine-by : (cells : ℕ) (scratch : List ℕ) (v : ℕ) → getD scratch (2 * v) 0 < p → (getD scratch (2 * v) 0 ≢ 0 → getD scratch (2 * v + 1) 0 < cells) → variableFine cells scratch v ≡ true
+unfolding variableFine
+fine-by cells scratch v l h = go (ℕ-discrete (getD scratch (2 * v) 0) 0)
+  where
+    go : Dec (getD scratch (2 * v) 0 ≡ 0)
+        → pick (ltb (getD scratch (2 * v) 0) p) (pick (eqb (getD scratch (2 * v) 0) 0) true (ltb (getD scratch (2 * v + 1) 0) cells)) false ≡ true
+    go (yes z) = rw (lt-ltb (getD scratch (2 * v) 0) p l, eq-eqb (getD scratch (2 * v) 0) 0 z)
+    go (no d) = rw (lt-ltb (getD scratch (2 * v) 0) p l, ne-eqb (getD scratch (2 * v) 0) 0 d, lt-ltb (getD scratch (2 * v + 1) 0) cells (h d))
+
+module _ (x : Setting) (pl : Planned x) (b : Cols) (W : List ℕ) (good : Each (GoodCell (x .variables)) W) (all : length W ≤ copyRoom x) where
+  all-fine : scratchFine (x .variables) (copyRoom x) (cellsRun 0 W (openCells x b) .scratch) ≡ true
+  unfolding scratchFine
+  all-fine = every-all (x .variables) 0 (variableFine (copyRoom x) (cellsRun 0 W (openCells x b) .scratch)) (λ v _ h. one v (omega arith))
+    where
+      t : Cols
+      t = cellsRun 0 W (openCells x b)
+
+      one : (v : ℕ) → v < x .variables → variableFine (copyRoom x) (t .scratch) v ≡ true
+      one v h =
+          ⊎-elim (λ z. fine-by (copyRoom x) (t .scratch) v (omega (arith, z)) (λ d. absurd (d z)))
+          (λ k. fine-by (copyRoom x) (t .scratch) v (omega (arith, k .1, pl .labels-below (k .0) (omega (arith, k .2)))) (λ d. omega (arith, k .3)))
+          (scratch-holds W (x .labels) (x .variables) (openCells x b) (range x pl b W good all) (nonzero x pl b W good all) (injective x pl b W good all) (opens x pl b W good all) v h)
+
+-- a state that does not stand is refused with 19
+number-19 : (x : Setting) (s : State) (c : Cols) → stands x s ≡ false → finishNumber x s c ≡ 19
+unfolding finishNumber
+number-19 x s c q = rw q
+
+not-18 : (t₁ t₂ t₃ t₄ t₅ : Bool) → t₅ ≡ true → _≡_ {A = ℕ} (pick t₁ (pick t₂ (pick t₃ (pick t₄ (pick t₅ 0 18) 17) 16) 10) 19) 18 → ⊥
+not-18 false t₂ t₃ t₄ t₅ e q = omega arith
+not-18 true false t₃ t₄ t₅ e q = omega arith
+not-18 true true false t₄ t₅ e q = omega arith
+not-18 true true true false t₅ e q = omega arith
+not-18 true true true true true e q = omega arith
+not-18 true true true true false e q = let z : _≡_ {A = ℕ} 0 1 = cc in omega arith
+
+pub never-18 : (x : Setting) → Planned x → (b : Store) (cs : List Call) → number x finishing (run x cs (fresh x b)) ≢ 18
+unfolding number finishNumber
+never-18 x pl b cs e = go (stands x (h .state)) refl
+  where
+    h : Held
+    h = run x cs (fresh x b)
+
+    i : Inv x b (circuit x cs (fresh x b) .rowWords) (circuit x cs (fresh x b) .sWordsGiven) (circuit x cs (fresh x b) .cellsGiven) (circuit x cs (fresh x b) .tablesGiven) h
+    i = whole-inv x b cs
+
+    go : (t : Bool) → stands x (h .state) ≡ t → ⊥
+    go false q = let n = number-19 x (h .state) (h .store .cells) q in omega (arith, n, e)
+    go true q =
+        let s = stood x (h .state) q in
+        let o = open-cells x b (circuit x cs (fresh x b) .rowWords) (circuit x cs (fresh x b) .sWordsGiven) (circuit x cs (fresh x b) .cellsGiven) (circuit x cs (fresh x b) .tablesGiven) h i (s .is-open) in
+        not-18 (stands x (h .state)) (roomForCells x (h .store .cells)) (complete x (h .state)) (allUsed (x .gates) (h .state .used)) (scratchFine (x .variables) (copyRoom x) (h .store .cells .scratch))
+        (ap (λ (c : Cols). scratchFine (x .variables) (copyRoom x) (c .scratch)) o ∙ all-fine x pl (b .cells) (circuit x cs (fresh x b) .cellsGiven) (i .cells-good) (omega (arith, s .cells-in, i .cell-count))) e

@@ -180,3 +180,9 @@ every-at (suc m) v f e i l h = go (ℕ-discrete i v) (both-true (f v) (everyFrom
     go : Dec (i ≡ v) → (f v ≡ true) × (everyFrom (suc v) m f ≡ true) → (everyFrom (suc v) m f ≡ true → (i : ℕ) → suc v ≤ i → i < suc v + m → f i ≡ true) → f i ≡ true
     go (yes q) t r = ap f q ∙ t .0
     go (no d) t r = r (t .1) i (omega arith) (omega arith)
+
+-- a test that holds of each holds of all
+pub every-all : (m v : ℕ) (f : ℕ → Bool) → ((i : ℕ) → v ≤ i → i < v + m → f i ≡ true) → everyFrom v m f ≡ true
+unfolding everyFrom
+every-all zero v f h = refl
+every-all (suc m) v f h = rw (h v (omega arith) (omega arith)) (every-all m (suc v) f (λ i l u. h i (omega arith) (omega arith)))

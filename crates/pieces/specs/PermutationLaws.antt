@@ -2,7 +2,7 @@
 --
 -- The idea: after k cell words each variable is unseen, or its first cell is a, its value is the label of its last cell b, and each of its cells but a holds the
 -- label of the one before. Finishing gives a the label of b.
--- Main definitions: `Seen`, `Unseen`, `Inv`, `Opened`, `Link`. Main statement: `permutes`.
+-- Main definitions: `Seen`, `Unseen`, `Inv`, `Opened`, `Link`. Main statements: `permutes`, `scratch-holds`.
 use mathlib.Core.Path.{_≡_, refl, sym, ap, _∙_}
 use mathlib.Core.Logic.{_≢_, _↔_, _⊎_, inl, inr, ⊎-elim}
 use mathlib.Core.List.{List, [], _∷_}
@@ -278,6 +278,11 @@ module _ (W L : List ℕ) (M : ℕ) (s : Cols) (range : (i v : ℕ) → Names W 
       go : Dec (getD W i 0 < placeholder) → (j : ℕ) × (j < length W) × (getD (ended W M s) i 0 ≡ getD L j 0)
       go (yes p) = let l = link i _ (record { here = h; plain = p; index = refl }) in (l .to, l .named .here, l .holds)
       go (no p) = (i, h, still i h (omega arith))
+
+  -- the scratch words after all cell words: unseen, or the label of a cell and the number of one
+  pub scratch-holds : (v : ℕ) → v < M → (value t v ≡ 0) ⊎ ((b : ℕ) × (value t v ≡ getD L b 0) × (b < length W) × (first t v < length W))
+  scratch-holds v h =
+      ⊎-elim (λ u. inl (u .zeroed)) (λ u. inr (u .b, u .b-is, u .b-below, omega (arith, u .a-is, u .a-below))) (inv .vars v h)
 
   module _ {A : Type 0} (f : ℕ → A) where
     keeps-first : Keeps (length W) L (ended W M s) f → (fuel i v : ℕ) → i < fuel → Names W i v → f i ≡ f (first t v)
