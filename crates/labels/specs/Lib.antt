@@ -1,2 +1,4 @@
 -- 01, 'Labels': definitions in 01's order, then their laws.
 pub mod Ranges
+pub mod Labels
+pub mod Numerals
