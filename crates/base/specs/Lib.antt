@@ -6,3 +6,5 @@ pub mod Tables
 pub mod Modular
 pub mod Powers
 pub mod Roots
+pub mod Fills
+pub mod Cosets

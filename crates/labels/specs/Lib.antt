@@ -2,3 +2,6 @@
 pub mod Ranges
 pub mod Labels
 pub mod Numerals
+pub mod Search
+pub mod Filling
+pub mod LabelLaws
