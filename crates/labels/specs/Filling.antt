@@ -14,6 +14,7 @@ use lib.ListN.{length, getD}
 use Rattle.base.specs.Modular.{mod-mul}
 use Rattle.base.specs.Fills.{Filled, filled-join, filled-same}
 use Rattle.field.specs.Field.{p, fmul, fpow}
+use Rattle.labels.specs.Ranges.{mostColumns}
 use Rattle.labels.specs.Labels.{domainGenerator, labelOf}
 
 -- row i of column 0
@@ -28,7 +29,7 @@ scaledFrom k at words i = fmul k (getD words (i - at) 0)
 pub record ColumnZero (n c : ℕ) (copies : List ℕ) : Type 0 where
   pub rows : 1 ≤ n
   pub some : 1 ≤ c
-  pub columns : c ≤ 64
+  pub columns : c ≤ mostColumns
   pub room : c * n ≤ length copies
   pub powers : (i : ℕ) → i < n → getD copies i 0 ≡ rootPower n i
 

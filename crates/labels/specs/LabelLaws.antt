@@ -23,6 +23,7 @@ use Rattle.base.specs.Roots.{Root, root-whole}
 use Rattle.base.specs.Cosets.{Cosets, coset-apart, coset-nonzero}
 use Rattle.field.specs.Field.{p, fmul, fpow, generator, squared}
 use Rattle.field.specs.FieldLaws.{domain-root, fmul-below}
+use Rattle.labels.specs.Refusals.{outOfRange, candidatesReachP, bufferTooShort}
 use Rattle.labels.specs.Ranges.{rangesFit, Ranges, ranges-fit, some-row, mostColumns}
 use Rattle.labels.specs.Labels.{Columns, domainGenerator, found, searchNumber, padded, representativesNumber, representativesOf, labelOf, labelNumber, labelAnswer, fillNumber, labelsWritten}
 use Rattle.labels.specs.Search.{Chosen, found-chosen}
@@ -89,7 +90,7 @@ unfolding searchNumber
 search-enough n c z = go (decLt (length (found n c .values)) c)
   where
     go : Dec (length (found n c .values) < c) → c ≤ length (found n c .values)
-    go (yes a) = let e : _≡_ {A = ℕ} 9 0 = rw (lt-ltb (length (found n c .values)) c a) at z in absurd (omega arith)
+    go (yes a) = let e : candidatesReachP ≡ 0 = rw (lt-ltb (length (found n c .values)) c a) at z in absurd (omega arith)
     go (no a) = omega arith
 
 -- what an accepted search gives
@@ -101,11 +102,11 @@ pub record AcceptedSearch (n c : ℕ) : Type 0 where
 pub accepted-search : (n c : ℕ) → representativesNumber n c ≡ 0 → AcceptedSearch n c
 unfolding representativesNumber representativesOf
 accepted-search n c z =
-    let q = pick-zero (rangesFit n c) (searchNumber n c) 1 (omega arith) z in
+    let q = pick-zero (rangesFit n c) (searchNumber n c) outOfRange (omega arith) z in
     record {
       ranges = ranges-fit n c (q .0);
       enough = search-enough n c (q .1);
-      answer = rw (eq-eqb (pick (rangesFit n c) (searchNumber n c) 1) 0 z);
+      answer = rw (eq-eqb (pick (rangesFit n c) (searchNumber n c) outOfRange) 0 z);
     }
 
 -- the word of a column that has one
@@ -163,8 +164,8 @@ module _ (n c : ℕ) (copies : List ℕ) where
     fill-tests : (rangesFit n c ≡ true) × (c * n ≤ length copies) × (searchNumber n c ≡ 0)
     unfolding fillNumber
     fill-tests =
-        let q = pick-zero (rangesFit n c) (pick (leb (c * n) (length copies)) (searchNumber n c) 10) 1 (omega arith) fine in
-        let t = pick-zero (leb (c * n) (length copies)) (searchNumber n c) 10 (omega arith) (q .1) in
+        let q = pick-zero (rangesFit n c) (pick (leb (c * n) (length copies)) (searchNumber n c) bufferTooShort) outOfRange (omega arith) fine in
+        let t = pick-zero (leb (c * n) (length copies)) (searchNumber n c) bufferTooShort (omega arith) (q .1) in
         (q .0, leb-true (c * n) (length copies) (t .0), t .1)
 
     -- an accepted filling has its representatives

@@ -2,7 +2,6 @@
 --
 -- Main definitions: `domainGenerator`; `Columns`, `tried`, `searchFrom`, `found` (the search); `representativesNumber`, `representativesOf`;
 -- `labelOf`, `labelNumber`, `labelAnswer`; `fillNumber`, `labelsWritten`.
--- The equations of the search stand here too: they are all that the proofs above use of it.
 use mathlib.Core.Path.{_≡_}
 use mathlib.Core.Bool.{Bool, true, false}
 use mathlib.Core.List.{List, [], _∷_, _++_}
@@ -13,6 +12,7 @@ use Rattle.base.specs.Pick.{pick, both}
 use Rattle.base.specs.Exponent.{exponent}
 use Rattle.base.specs.Tables.{table}
 use Rattle.field.specs.Field.{p, fmul, fpow, generator, isNonResidue, squared}
+use Rattle.labels.specs.Refusals.{outOfRange, candidatesReachP, bufferTooShort}
 use Rattle.labels.specs.Ranges.{rangesFit, mostColumns}
 
 -- "w is the generator squared 32−log2(N) times."
@@ -58,7 +58,7 @@ found n c = searchFrom isNonResidue (λ k. fpow k n) (p - 2) c 2 firstColumn
 
 -- "9 candidates reach p."
 unfoldable pub searchNumber : ℕ → ℕ → ℕ
-searchNumber n c = pick (ltb (length (found n c .values)) c) 9 0
+searchNumber n c = pick (ltb (length (found n c .values)) c) candidatesReachP 0
 
 -- the words of a list, then zeros: as many as columns there may be
 abbrev pub padded : List ℕ → List ℕ
@@ -66,7 +66,7 @@ padded xs = xs ++ replicate (mostColumns - length xs) 0
 
 -- "Labels asked for by themselves: 1 N or C outside its range, [..]; 9."
 unfoldable pub representativesNumber : ℕ → ℕ → ℕ
-representativesNumber n c = pick (rangesFit n c) (searchNumber n c) 1
+representativesNumber n c = pick (rangesFit n c) (searchNumber n c) outOfRange
 
 -- "The answer is then zeros": 64 words, the representatives of columns 0 to c - 1 and then zeros
 unfoldable pub representativesOf : ℕ → ℕ → List ℕ
@@ -78,7 +78,7 @@ labelOf n reps cell = fmul (getD reps (cell / n) 0) (fpow (domainGenerator n) (c
 
 -- "1 N or C outside its range, or a cell outside the C columns; 9."
 unfoldable pub labelNumber : ℕ → ℕ → ℕ → ℕ
-labelNumber n c cell = pick (rangesFit n c) (pick (ltb cell (c * n)) (searchNumber n c) 1) 1
+labelNumber n c cell = pick (rangesFit n c) (pick (ltb cell (c * n)) (searchNumber n c) outOfRange) outOfRange
 
 -- "The answer is then zeros."
 unfoldable pub labelAnswer : ℕ → ℕ → ℕ → ℕ
@@ -86,7 +86,7 @@ labelAnswer n c cell = pick (eqb (labelNumber n c cell) 0) (labelOf n (represent
 
 -- The labels of all cells at the start of lent words, as opening has them ("19; 10; 9"): 1, then 10 "a buffer too short", then 9.
 unfoldable pub fillNumber : ℕ → ℕ → List ℕ → ℕ
-fillNumber n c copies = pick (rangesFit n c) (pick (leb (c * n) (length copies)) (searchNumber n c) 10) 1
+fillNumber n c copies = pick (rangesFit n c) (pick (leb (c * n) (length copies)) (searchNumber n c) bufferTooShort) outOfRange
 
 -- "Opening [..] writes labels; words beyond them keep their values." A refusal writes no word.
 unfoldable pub labelsWritten : ℕ → ℕ → List ℕ → List ℕ

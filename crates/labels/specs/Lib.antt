@@ -1,4 +1,5 @@
 -- 01, 'Labels': definitions in 01's order, then their laws.
+pub mod Refusals
 pub mod Ranges
 pub mod Labels
 pub mod Numerals

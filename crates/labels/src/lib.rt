@@ -9,6 +9,14 @@ ghost use Rattle.labels.specs.Labels.{Columns, domainGenerator, absent, 
 ghost use Rattle.labels.specs.Search.{stored};
 ghost use Rattle.labels.specs.Filling.{rootPower, scaledFrom, ColumnZero};
 
+// The refusal numbers of 01: N, C or a cell is out of range; the candidates reach p; a lent slice
+// is too short.
+pub const OUT_OF_RANGE: u64 = 1;
+
+pub const CANDIDATES_REACH_P: u64 = 9;
+
+pub const BUFFER_TOO_SHORT: u64 = 10;
+
 pub const LONGEST_TRACE: u64 = 65536;
 
 pub const MOST_COLUMNS: u64 = 64;
@@ -121,7 +129,7 @@ pub fn representatives(n: u64, c: u64) -> RepresentativesAnswer
         let found = make_non_residues(n, c);
         if found.kept < c {
             return RepresentativesAnswer {
-                number: 9,
+                number: CANDIDATES_REACH_P,
                 values: [0; 64],
             };
         }
@@ -132,7 +140,7 @@ pub fn representatives(n: u64, c: u64) -> RepresentativesAnswer
         };
     }
     RepresentativesAnswer {
-        number: 1,
+        number: OUT_OF_RANGE,
         values: [0; 64],
     }
 }
@@ -167,7 +175,7 @@ pub fn label(n: u64, c: u64, cell: u64) -> LabelAnswer
         }
     }
     LabelAnswer {
-        number: 1,
+        number: OUT_OF_RANGE,
         value: 0,
     }
 }
@@ -229,7 +237,7 @@ pub fn fill_labels(n: u64, c: u64, copies: &mut [u64]) -> u64
             materialize_x_by_non_residue_polys(n as usize, c as usize, &values, copies);
             return 0;
         }
-        return 10;
+        return BUFFER_TOO_SHORT;
     }
-    1
+    OUT_OF_RANGE
 }
