@@ -2,9 +2,9 @@
 -- powers are distinct, all C N elements are distinct and none is 0. No primality is used.
 --
 -- Main definition: `Cosets`. Main statements: `coset-apart`, `coset-nonzero`.
-use mathlib.Core.Path.{_≡_, refl, sym, ap, _∙_}
+use mathlib.Core.Path.{_≡_, sym, _∙_}
 use mathlib.Core.Logic.{_≢_}
-use Prim.Native.Nat.{ℕ, suc, _*_, _-_, _%_, _^_, _<_}
+use Prim.Native.Nat.{ℕ, _*_, _-_, _%_, _^_, _<_}
 use native.Mathlib.Nat.{mul-comm, mul-one, mul-zero, mod-eq-of-lt, zero-mod}
 use native.Mathlib.Omega.{arith}
 use Rattle.base.specs.Modular.{Same, same-right, same-pow, cancel}

@@ -3,7 +3,7 @@
 -- Main definition: `Filled`. Main statements: `filled-none`, `filled-next` (one more word), `filled-join` (one stretch after the other),
 -- `filled-same`, `filled-list` (a stretch from the start, as one list).
 use mathlib.Core.Path.{_≡_, refl, sym, ap, _∙_}
-use mathlib.Core.List.{List, [], _∷_, _++_}
+use mathlib.Core.List.{List, _++_}
 use Prim.Native.Nat.{ℕ, _+_, _-_, _≤_, _<_}
 use native.Mathlib.Decide.{ℕ-discrete, decLt}
 use native.Mathlib.Omega.{arith}

@@ -3,9 +3,9 @@
 -- Main definitions: `rootPower`, `scaledFrom`, `ColumnZero`.
 -- Main statements: `power-begin`, `power-next` (the powers of w one after the other), `label-column` (a label is its column's representative times a word of column 0),
 -- `label-first` (column 0's labels are the powers of w), `column-next` (one more column), `all-columns`.
-use mathlib.Core.Path.{_≡_, refl, sym, ap, _∙_}
-use mathlib.Core.List.{List, [], _∷_, _++_}
-use Prim.Native.Nat.{ℕ, zero, suc, _+_, _-_, _*_, _/_, _%_, _^_, _≤_, _<_}
+use mathlib.Core.Path.{_≡_, sym, ap, _∙_}
+use mathlib.Core.List.{List}
+use Prim.Native.Nat.{ℕ, _+_, _-_, _*_, _/_, _%_, _≤_, _<_}
 use native.Mathlib.Nat.{mul-le-mul-right, one-mul, mod-mod, mod-eq-of-lt, div-eq-of-lt, pow-zero, pow-suc}
 use native.Mathlib.Numerals.{add-one}
 use native.Mathlib.Omega.{arith}
@@ -13,7 +13,7 @@ use lib.Arith.{digits-mod, digits-div}
 use lib.ListN.{length, getD}
 use Rattle.base.specs.Modular.{mod-mul}
 use Rattle.base.specs.Fills.{Filled, filled-join, filled-same}
-use Rattle.field.specs.Field.{p, fmul, fpow}
+use Rattle.field.specs.Field.{fmul, fpow}
 use Rattle.labels.specs.Ranges.{mostColumns}
 use Rattle.labels.specs.Labels.{domainGenerator, labelOf}
 

@@ -3,30 +3,30 @@
 -- Main definition: `DistinctLabels` (below p, nonzero, pairwise distinct).
 -- Main statements: `domain-whole` (w ^ N is 1); `distinct-labels`, for any list of representatives that are `Cosets` of base; `search-cosets` (01's search gives such a
 -- list); for the words that `labelsWritten` puts down: `written-is`, `written-refused`, `written-length`, `written-label`, `written-rest`, `written-distinct`.
-use mathlib.Core.Path.{_≡_, refl, sym, ap, _∙_, subst}
+use mathlib.Core.Path.{_≡_, sym, ap, _∙_, subst}
 use mathlib.Core.Logic.{_≢_}
-use mathlib.Core.Bool.{Bool, true, false}
-use mathlib.Core.List.{List, [], _∷_, _++_}
-use Prim.Native.Nat.{ℕ, zero, suc, _+_, _-_, _*_, _/_, _%_, _^_, _≤_, _<_}
-use native.Mathlib.Nat.{mod-lt, mod-eq-of-lt, div-add-mod, div-lt-iff-lt-mul}
+use mathlib.Core.Bool.{true}
+use mathlib.Core.List.{List, _++_}
+use Prim.Native.Nat.{ℕ, _+_, _-_, _*_, _/_, _%_, _^_, _≤_, _<_}
+use native.Mathlib.Nat.{mod-lt, div-add-mod, div-lt-iff-lt-mul}
 use native.Mathlib.Decide.{ℕ-discrete, decLt}
 use native.Mathlib.Omega.{arith}
-use lib.Dec.{ltb, leb, eqb}
+use lib.Dec.{leb}
 use lib.ListN.{length, getD, drop, replicate, length-append, length-drop, List·getD-append}
 use lib.Seq.{getD-append-add, getD-drop}
 use borrow.Author.Tests.{lt-ltb, le-leb, eq-eqb, ne-eqb, leb-true}
-use Rattle.base.specs.Pick.{pick, pick-zero, pick-yes, pick-no}
+use Rattle.base.specs.Pick.{pick, pick-zero}
 use Rattle.base.specs.Exponent.{exponent}
 use Rattle.base.specs.Tables.{table, table-length, table-at}
 use Rattle.base.specs.Modular.{mul-mod}
 use Rattle.base.specs.Roots.{Root, root-whole}
 use Rattle.base.specs.Cosets.{Cosets, coset-apart, coset-nonzero}
-use Rattle.field.specs.Field.{p, fmul, fpow, generator, squared}
+use Rattle.field.specs.Field.{p, fpow}
 use Rattle.field.specs.FieldLaws.{domain-root, fmul-below}
 use Rattle.labels.specs.Refusals.{outOfRange, candidatesReachP, bufferTooShort}
 use Rattle.labels.specs.Ranges.{rangesFit, Ranges, ranges-fit, some-row, mostColumns}
-use Rattle.labels.specs.Labels.{Columns, domainGenerator, found, searchNumber, padded, representativesNumber, representativesOf, labelOf, labelNumber, labelAnswer, fillNumber, labelsWritten}
-use Rattle.labels.specs.Search.{Chosen, found-chosen}
+use Rattle.labels.specs.Labels.{domainGenerator, found, searchNumber, padded, representativesNumber, representativesOf, labelOf, labelNumber, labelAnswer, fillNumber, labelsWritten}
+use Rattle.labels.specs.Search.{found-chosen}
 
 -- labels at the first m words of a list
 pub record DistinctLabels (m : ℕ) (labels : List ℕ) : Type 0 where

@@ -2,13 +2,12 @@
 --
 -- Main definitions: `domainGenerator`; `Columns`, `tried`, `searchFrom`, `found` (the search); `representativesNumber`, `representativesOf`;
 -- `labelOf`, `labelNumber`, `labelAnswer`; `fillNumber`, `labelsWritten`.
-use mathlib.Core.Path.{_≡_}
 use mathlib.Core.Bool.{Bool, true, false}
 use mathlib.Core.List.{List, [], _∷_, _++_}
 use Prim.Native.Nat.{ℕ, zero, suc, _+_, _-_, _*_, _/_, _%_}
 use lib.Dec.{ltb, leb, eqb}
 use lib.ListN.{length, getD, drop, replicate}
-use Rattle.base.specs.Pick.{pick, both}
+use Rattle.base.specs.Pick.{pick}
 use Rattle.base.specs.Exponent.{exponent}
 use Rattle.base.specs.Tables.{table}
 use Rattle.field.specs.Field.{p, fmul, fpow, generator, isNonResidue, squared}

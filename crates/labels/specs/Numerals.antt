@@ -1,7 +1,7 @@
 -- 01's worked representatives, computed: the search runs with the power by squaring, which is the field's power.
 --
 -- Main statements: `search-same` (equal functions give the same search), `found-computes`, `worked-labels` (P4, and 56 passed over at N = 64).
-use mathlib.Core.Path.{_≡_, refl, ap, _∙_}
+use mathlib.Core.Path.{_≡_, refl, ap}
 use mathlib.Core.Bool.{Bool, true, false}
 use mathlib.Core.List.{List, [], _∷_, _++_}
 use Prim.Native.Nat.{ℕ, zero, suc, _-_, _^_}

@@ -2,14 +2,14 @@
 --
 -- Main definition: `rangesFit`. Main statements: `ranges-fit`, `some-row`, `cells-fit`.
 use mathlib.Core.Path.{_≡_}
-use mathlib.Core.Bool.{Bool, true, false}
+use mathlib.Core.Bool.{Bool, true}
 use Prim.Native.Nat.{ℕ, _*_, _^_, _≤_, _<_}
 use native.Mathlib.Nat.{mul-le-mul}
 use native.Mathlib.Omega.{arith}
 use lib.Dec.{leb}
 use lib.Pow.{pow-pos}
 use borrow.Author.Tests.{leb-true}
-use Rattle.base.specs.Pick.{pick, both, both-true}
+use Rattle.base.specs.Pick.{both, both-true}
 use Rattle.base.specs.Exponent.{isPower, exponent, power-is, exponent-least}
 
 -- "N is the trace length, a power of two, 1..65,536."

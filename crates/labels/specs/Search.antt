@@ -6,23 +6,23 @@ use mathlib.Core.Path.{_≡_, refl, sym, ap, _∙_}
 use mathlib.Core.Logic.{_≢_, _⊎_, inl, inr}
 use mathlib.Core.Bool.{Bool, true, false}
 use mathlib.Core.List.{List, [], _∷_, _++_, append-assoc}
-use Prim.Native.Nat.{ℕ, zero, suc, _+_, _-_, _%_, _^_, _≤_, _<_}
-use native.Mathlib.Nat.{not-suc-le-zero, le-of-suc-le-suc, mod-eq-of-lt}
+use Prim.Native.Nat.{ℕ, zero, suc, _+_, _-_, _≤_, _<_}
+use native.Mathlib.Nat.{not-suc-le-zero, le-of-suc-le-suc}
 use native.Mathlib.Numerals.{add-one}
 use native.Mathlib.Decide.{ℕ-discrete, decLt}
 use native.Mathlib.Omega.{arith}
 use lib.Dec.{ltb, eqb}
 use lib.ListN.{length, getD, set, take, drop, replicate, length-append, List·getD-append}
-use lib.Seq.{set-append-seam, getD-append-seam, take-at, append-snoc, drop-cons}
+use lib.Seq.{set-append-seam, getD-append-seam, take-at}
 use borrow.Author.Tests.{lt-ltb, le-ltb, eq-eqb, ne-eqb}
-use Rattle.base.specs.Pick.{pick, pick-yes, pick-no}
+use Rattle.base.specs.Pick.{pick}
 use Rattle.base.specs.Drops.{drop-none, drop-one}
 use Rattle.base.specs.Powers.{one-pow}
 use Rattle.field.specs.Field.{p, fpow, isNonResidue}
 use Rattle.field.specs.FieldLaws.{non-residue-unit}
 use Rattle.labels.specs.declared.NonResidues.{NonResidues}
 use Rattle.labels.specs.Ranges.{mostColumns}
-use Rattle.labels.specs.Labels.{Columns, columns, kept, firstColumn, absent, tried, searchFrom, found, padded}
+use Rattle.labels.specs.Labels.{Columns, kept, firstColumn, absent, tried, searchFrom, found, padded}
 
 -- the columns as the code holds them
 abbrev pub stored : Columns → NonResidues

@@ -1,7 +1,7 @@
 -- Words from little-endian bytes, and the counts of a replay.
 --
 -- Main definitions: `wordAt`, `started`, `stepped`, `noted`, `compared`.
-use mathlib.Core.Bool.{Bool, true, false}
+use mathlib.Core.Bool.{Bool}
 use mathlib.Core.List.{List}
 use Prim.Native.Nat.{ℕ, _+_, _*_, _/_}
 use lib.Dec.{ltb, leb, eqb}

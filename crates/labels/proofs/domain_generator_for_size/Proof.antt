@@ -1,7 +1,7 @@
 -- `labels::domain_generator_for_size` meets its contract. The invariant: w has yet to be squared 32 - e times.
 -- Assumes nothing.
 use borrow.Author.Needs.{needs}
-use mathlib.Core.Path.{_≡_, refl, sym, ap, _∙_}
+use mathlib.Core.Path.{_≡_, sym, ap, _∙_}
 use Prim.Native.Nat.{ℕ, suc, _+_, _-_, _≤_, _<_}
 use native.Mathlib.Omega.{arith}
 use Rattle.base.specs.Exponent.{exponent}
@@ -49,7 +49,7 @@ loop-less c = search needs
 loop-again : tie.Need-loop-again Inv-loop μ-loop
 loop-again c =
     let l = c .before .before .loop in
-    l .inv ∙ squared-next (l .e) (l .w) (c .mul .result) (c .before .loop-test .taken) (c .mul .ensures)
+    l .inv ∙ squared-next (l .e) (l .w) (c .mul .result) (omega arith) (c .mul .ensures)
 
 returns : tie.Need-returns Inv-loop μ-loop
 returns c =

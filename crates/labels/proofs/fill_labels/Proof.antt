@@ -3,18 +3,17 @@
 -- Assumes nothing.
 use borrow.Author.Needs.{needs}
 use borrow.Author.Tests.{lt-leb}
-use mathlib.Core.Path.{_≡_, refl, sym, ap, _∙_, subst}
+use mathlib.Core.Path.{_≡_, sym, _∙_}
 use mathlib.Core.Logic.{_≢_}
 use mathlib.Core.Bool.{true, false}
-use mathlib.Core.List.{List}
-use Prim.Native.Nat.{ℕ, _*_, _≤_, _<_}
+use Prim.Native.Nat.{_*_}
 use native.Mathlib.Nat.{mul-le-mul-right}
 use native.Mathlib.Omega.{arith}
-use lib.ListN.{length, getD}
-use Rattle.base.specs.Fills.{Filled, filled-list}
+use lib.ListN.{length}
+use Rattle.base.specs.Fills.{filled-list}
 use Rattle.labels.specs.Ranges.{rangesFit, Ranges, ranges-fit, some-row, cells-fit}
 use Rattle.labels.specs.Labels.{representativesNumber, representativesOf, labelOf, fillNumber, labelsWritten}
-use Rattle.labels.specs.Filling.{ColumnZero, all-columns}
+use Rattle.labels.specs.Filling.{all-columns}
 use Rattle.labels.specs.LabelLaws.{column-zero, fill-number, written-is, written-refused}
 use borrow.Author.Needs.{needs}
 use Rattle.labels.proofs.fill_labels.Statement.{statement}

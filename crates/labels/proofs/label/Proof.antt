@@ -1,18 +1,18 @@
 -- `labels::label` meets its contract: after the tests of the ranges and of the cell its number is that of the representatives, and its value is the definition's product.
 -- Assumes nothing.
 use borrow.Author.Needs.{needs}
-use borrow.Author.Tests.{lt-ltb, le-ltb}
-use mathlib.Core.Path.{_≡_, refl, sym, ap, _∙_}
+use borrow.Author.Tests.{le-ltb}
+use mathlib.Core.Path.{_≡_, sym, ap, _∙_}
 use mathlib.Core.Logic.{_≢_}
 use mathlib.Core.Bool.{true, false}
 use mathlib.Core.List.{List}
-use Prim.Native.Nat.{ℕ, _*_, _/_, _%_, _≤_, _<_}
+use Prim.Native.Nat.{ℕ, _*_, _/_, _%_, _<_}
 use native.Mathlib.Nat.{div-lt-iff-lt-mul}
 use native.Mathlib.Omega.{arith}
-use lib.ListN.{length, getD}
+use lib.ListN.{getD}
 use Rattle.field.specs.Field.{fmul, fpow}
 use Rattle.labels.specs.Ranges.{rangesFit, Ranges, ranges-fit, some-row, cells-fit}
-use Rattle.labels.specs.Labels.{domainGenerator, representativesOf, labelOf, labelNumber, labelAnswer}
+use Rattle.labels.specs.Labels.{representativesOf, labelOf, labelNumber, labelAnswer}
 use Rattle.labels.specs.LabelLaws.{label-number, label-accepted, label-refused}
 use borrow.Author.Needs.{needs}
 use Rattle.labels.proofs.label.Statement.{statement}

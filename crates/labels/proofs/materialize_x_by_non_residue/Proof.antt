@@ -1,11 +1,11 @@
 -- `labels::materialize_x_by_non_residue` meets its contract. The invariant: r words from `at` on are filled; the words read stand before `at`, and are the old ones.
 -- Assumes nothing.
 use borrow.Author.Needs.{needs}
-use mathlib.Core.Path.{_≡_, sym, ap, _∙_}
-use Prim.Native.Nat.{ℕ, _+_, _-_, _≤_, _<_}
+use mathlib.Core.Path.{_≡_, ap, _∙_}
+use Prim.Native.Nat.{ℕ, _+_, _-_, _≤_}
 use native.Mathlib.Nat.{add-zero}
 use native.Mathlib.Omega.{arith}
-use lib.ListN.{length, getD}
+use lib.ListN.{getD}
 use Rattle.base.specs.Fills.{Filled, filled-none, filled-next}
 use Rattle.field.specs.Field.{fmul}
 use Rattle.labels.specs.Filling.{scaledFrom}

@@ -1,14 +1,13 @@
 -- `labels::materialize_x_by_non_residue_polys` meets its contract. The invariant: the columns before `column` are filled, and column 0 stands.
 -- Assumes nothing.
 use borrow.Author.Needs.{needs}
-use mathlib.Core.Path.{_≡_, sym, ap, _∙_}
-use Prim.Native.Nat.{ℕ, _+_, _-_, _*_, _≤_, _<_}
+use mathlib.Core.Path.{_≡_}
+use Prim.Native.Nat.{_-_, _*_, _≤_}
 use native.Mathlib.Nat.{one-mul}
 use native.Mathlib.Omega.{arith}
-use lib.ListN.{length, getD}
 use Rattle.base.specs.Fills.{Filled, filled-none}
 use Rattle.labels.specs.Labels.{labelOf}
-use Rattle.labels.specs.Filling.{ColumnZero, column-place, column-next}
+use Rattle.labels.specs.Filling.{column-place, column-next}
 use Rattle.labels.proofs.materialize_x_by_non_residue_polys.Statement.{statement}
 use Rattle.labels.proofs.materialize_x_by_non_residue_polys.Tie as tie
 

@@ -1,10 +1,9 @@
 -- `labels::materialize_x_poly` meets its contract. The invariant: r words are filled, and x is the power of w that comes next.
 -- Assumes nothing.
 use borrow.Author.Needs.{needs}
-use mathlib.Core.Path.{_≡_, sym, ap, _∙_}
-use Prim.Native.Nat.{ℕ, _+_, _-_, _≤_, _<_}
+use mathlib.Core.Path.{_≡_, ap, _∙_}
+use Prim.Native.Nat.{ℕ, _-_, _≤_}
 use native.Mathlib.Omega.{arith}
-use lib.ListN.{length, set, length-set}
 use Rattle.base.specs.Fills.{Filled, filled-none, filled-next}
 use Rattle.field.specs.Field.{fmul}
 use Rattle.labels.specs.Labels.{domainGenerator}

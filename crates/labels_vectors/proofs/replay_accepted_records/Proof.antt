@@ -1,7 +1,6 @@
 -- `labels_vectors::replay_accepted_records` is safe and ends. The measure is what is left; nothing has to hold from turn to turn.
 -- Assumes nothing.
 use borrow.Author.Needs.{needs}
-use native.Mathlib.Omega.{arith}
 use Rattle.labels_vectors.proofs.replay_accepted_records.Statement.{statement}
 use Rattle.labels_vectors.proofs.replay_accepted_records.Tie as tie
 

@@ -1,8 +1,7 @@
 -- `labels_vectors::replay_representatives` is safe and ends: it goes through the 64 slots.
 -- Assumes nothing.
 use borrow.Author.Needs.{needs}
-use Prim.Native.Nat.{ℕ, _-_, _≤_}
-use native.Mathlib.Omega.{arith}
+use Prim.Native.Nat.{_-_, _≤_}
 use Rattle.labels_vectors.proofs.replay_representatives.Statement.{statement}
 use Rattle.labels_vectors.proofs.replay_representatives.Tie as tie
 

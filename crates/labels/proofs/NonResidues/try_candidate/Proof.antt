@@ -1,16 +1,14 @@
 -- `labels::NonResidues::try_candidate` meets its contract: each way out is one equation of `tried`, and a store goes where the zeros begin.
 -- Assumes nothing.
 use borrow.Author.Needs.{needs}
-use mathlib.Core.Path.{_≡_, refl, sym, ap, _∙_}
-use mathlib.Core.Bool.{Bool, true, false}
-use mathlib.Core.List.{List, [], _∷_, _++_}
-use Prim.Native.Nat.{ℕ, _+_, _-_, _≤_, _<_}
+use mathlib.Core.Path.{_≡_, sym, ap, _∙_}
+use mathlib.Core.Bool.{true}
+use Prim.Native.Nat.{_-_}
 use native.Mathlib.Omega.{arith}
-use lib.ListN.{length, getD, set, take, length-append}
-use lib.Seq.{length-take-le, take-at}
+use lib.ListN.{length}
+use lib.Seq.{length-take-le}
 use Rattle.field.specs.Field.{fpow, isNonResidue}
-use Rattle.labels.specs.declared.NonResidues.{NonResidues}
-use Rattle.labels.specs.Labels.{Columns, absent, tried, padded}
+use Rattle.labels.specs.Labels.{absent}
 use Rattle.labels.specs.Search.{stored, held-powers, held-next, tried-kept, tried-coset, tried-residue}
 use borrow.Author.Needs.{needs}
 use Rattle.labels.proofs.NonResidues.try_candidate.Statement.{statement}

@@ -1,7 +1,6 @@
 -- `replay::Replay::note` meets its contract: `up` on the count, and on the differences where the two are not the same.
 -- Assumes nothing.
 use borrow.Author.Needs.{needs}
-use mathlib.Core.Path.{_≡_, ap, _∙_}
 use borrow.Author.Needs.{needs}
 use Rattle.replay.proofs.Replay.note.Statement.{statement}
 use Rattle.replay.proofs.Replay.note.Tie as tie
