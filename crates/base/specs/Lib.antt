@@ -7,3 +7,5 @@ pub mod Firsts
 pub mod Modular
 pub mod Powers
 pub mod Roots
+pub mod Fills
+pub mod Cosets
