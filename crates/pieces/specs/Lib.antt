@@ -18,3 +18,4 @@ pub mod FaultLaws
 pub mod ClosedForms
 pub mod NumberLaws
 pub mod LineLaws
+pub mod Worked
