@@ -2,3 +2,4 @@
 pub mod Digits
 pub mod Placed
 pub mod Stacked
+pub mod TreeLaws
