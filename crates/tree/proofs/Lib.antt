@@ -2,3 +2,4 @@
 mod OrderLaws
 mod SearchLaws
 mod NodesLaws
+mod PathsLaws

@@ -1,2 +1,4 @@
 pub mod Offers
 pub mod Shapes
+pub mod Walks
+pub mod Placements
