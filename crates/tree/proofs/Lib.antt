@@ -3,3 +3,4 @@ mod OrderLaws
 mod SearchLaws
 mod NodesLaws
 mod PathsLaws
+mod RefusalsLaws
