@@ -4,3 +4,4 @@ mod SearchLaws
 mod NodesLaws
 mod PathsLaws
 mod RefusalsLaws
+mod PlanCodeLaws

@@ -6,5 +6,7 @@ mod nodes;
 mod order;
 pub mod parameters;
 mod paths;
+pub mod plan;
+pub mod planning;
 mod refusals;
 mod search;

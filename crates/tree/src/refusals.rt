@@ -1,11 +1,25 @@
-// The refusals 4 to 7, which are about gate records.
+// The refusals 3 to 7, which are about gate records.
 ghost use mathlib.Core.Path.{_≡_};
 ghost use Prim.Native.Nat.{ℕ, _-_, _*_, _≤_, _<_};
 ghost use lib.ListN.{length};
 ghost use Rattle.selector.specs.Gates.{gateWords, placedGates, topConstants};
-ghost use Rattle.selector.specs.Refusals.{recordNumber, recordsNumber, listsLookup, someKind, lookupNumber, kindsNumber, constantsNumber, extraOf, gatesNumber};
+ghost use Rattle.selector.specs.Refusals.{wordsFit, recordNumber, recordsNumber, listsLookup, someKind, lookupNumber, kindsNumber, constantsNumber, extraOf, gatesNumber};
 use crate::gates::GATE_WORDS;
 use crate::gates::constants_of;
+
+// Three words each for 1 to 128 gates; else the refusal is 3.
+pub fn words_fit(gates: &[u64]) -> bool
+    ensures { λ r. ⌜ r ≡ wordsFit (now (gates .entry)) ⌝ }
+{
+    let many = gates.len() / GATE_WORDS;
+    if many * GATE_WORDS == gates.len() {
+        if many < 1 {
+            return false;
+        }
+        return many <= 128;
+    }
+    false
+}
 
 // The refusal of a record: 4, or 0.
 fn record_number(kind: u64, degree: u64, constants: u64) -> u64
