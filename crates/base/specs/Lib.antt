@@ -4,6 +4,7 @@ pub mod Exponent
 pub mod Drops
 pub mod Tables
 pub mod Firsts
+pub mod Copies
 pub mod Modular
 pub mod Powers
 pub mod Roots

@@ -3,7 +3,6 @@
 -- Main definition: `Sturdy`. Main statements: `sturdy`, `own-passes`, `links`.
 use Prim.Native.Nat.{_*_, _+_, _-_, _<_, _≤_, suc, zero, ℕ}
 use borrow.Author.Tests.{eq-eqb, eqb-false, eqb-true, le-leb, leb-true, lt-ltb, ltb-true, ne-eqb}
-use borrow.Fn.PlainCycle.{is}
 use lib.Dec.{eqb, leb, ltb}
 use lib.ListN.{length, replicate}
 use mathlib.Core.Bool.{Bool, false, true}
@@ -26,6 +25,7 @@ use Rattle.selector.specs.SearchLaws.{Searched, search-facts}
 use Rattle.selector.specs.SortLaws.{leaf-other, leaf-self, length-placed, times, times-inside, times-outside}
 use Rattle.selector.specs.Tree.{Tree, depth, fork, leaf, size, standing}
 use Rattle.selector.specs.Walk.{Links}
+use borrow.Fn.PlainCycle.{is}
 
 -- a conjunction's parts
 and-left : (a b : Bool) → both a b ≡ true → a ≡ true

@@ -10,9 +10,10 @@ use mathlib.Core.List.{List, [], _∷_}
 use mathlib.Core.Path.{_≡_, subst}
 use native.Mathlib.Decide.{ℕ-discrete}
 use native.Mathlib.Omega.{arith}
-use Rattle.base.specs.Pick.{pick, pick-zero}
+use Rattle.base.specs.Firsts.{first-zero}
+use Rattle.base.specs.Pick.{both, both-true, pick, pick-zero}
 use Rattle.selector.specs.Gates.{Listed, constantsOf, constantsWord, degreeAt, degreeOf, gateWords, greatest, kindOf, placedGates, topConstants, topDegree}
-use Rattle.selector.specs.Refusals.{Sound, mostGates, recordNumber, recordsNumber}
+use Rattle.selector.specs.Refusals.{Sound, extraOf, gateCount, gatesNumber, mostGates, recordNumber, recordsNumber, wordsFit}
 use Rattle.selector.specs.SortLaws.{listed-placed}
 
 gate-small : (k d c : ℕ) → recordNumber k d c ≡ 0 → (d ≤ 64) × (c ≤ 16)
@@ -81,3 +82,23 @@ module _ (gs : List ℕ) (m x : ℕ) (sound : Sound gs m x) where
 
   pub top-degree : topDegree gs (placedGates gs m) ≤ 64
   top-degree = greatest-le (λ (g : ℕ). degreeAt gs g 0) 64 m (placedGates gs m) (λ g h. degree-small g 0 h) (listed-placed m x gs m 0 (omega arith))
+
+-- what 3 gives
+pub words-fit : (gs : List ℕ) → wordsFit gs ≡ true → (gateCount gs * gateWords ≡ length gs) × (1 ≤ gateCount gs) × (gateCount gs ≤ mostGates)
+unfolding wordsFit
+words-fit gs e =
+    let a = both-true (eqb (gateCount gs * gateWords) (length gs)) (both (leb 1 (gateCount gs)) (leb (gateCount gs) mostGates)) e in
+    let b = both-true (leb 1 (gateCount gs)) (leb (gateCount gs) mostGates) (a .1) in
+    (eqb-true (gateCount gs * gateWords) (length gs) (a .0), leb-true 1 (gateCount gs) (b .0), leb-true (gateCount gs) mostGates (b .1))
+
+extra-small : (mode : ℕ) → extraOf mode ≤ 1
+extra-small mode = by (eqb mode 2)
+  where
+    by : (t : Bool) → pick t 1 0 ≤ 1
+    by true = omega arith
+    by false = omega arith
+
+-- what 4 to 7 give: 4 the bounds of the records
+pub gates-sound : (mode allowed : ℕ) (gs : List ℕ) (m : ℕ) → gatesNumber mode allowed gs m ≡ 0 → m * gateWords ≤ length gs → m ≤ mostGates → Sound gs m (extraOf mode)
+unfolding gatesNumber
+gates-sound mode allowed gs m e l few = records-sound gs m (extraOf mode) (first-zero (recordsNumber m gs 0) _ e .0) l few (extra-small mode)

@@ -28,15 +28,15 @@ and-not true b e = e
 and-not false b e = refl
 
 module _ (x : ℕ) (gs : List ℕ) (m : ℕ) where
-  meet-far : (g d : ℕ) (w : Walk) → m ≤ g → meet x gs m g d w ≡ lost w
+  pub meet-far : (g d : ℕ) (w : Walk) → m ≤ g → meet x gs m g d w ≡ lost w
   unfolding meet
   meet-far g d w h = rw (le-ltb g m h)
 
-  meet-twice : (g d : ℕ) (w : Walk) → g < m → (getD (w .marks) g 0 ≡ 0 → ⊥) → meet x gs m g d w ≡ lost w
+  pub meet-twice : (g d : ℕ) (w : Walk) → g < m → (getD (w .marks) g 0 ≡ 0 → ⊥) → meet x gs m g d w ≡ lost w
   unfolding meet
   meet-twice g d w h e = rw (lt-ltb g m h, ne-eqb (getD (w .marks) g 0) 0 e)
 
-  meet-new : (g d : ℕ) (w : Walk) → g < m → getD (w .marks) g 0 ≡ 0
+  pub meet-new : (g d : ℕ) (w : Walk) → g < m → getD (w .marks) g 0 ≡ 0
       → meet x gs m g d w ≡ met w g (degreeAt gs g d) (constantsOf x gs g + d)
   unfolding meet
   meet-new g d w h e = rw (lt-ltb g m h, eq-eqb (getD (w .marks) g 0) 0 e)

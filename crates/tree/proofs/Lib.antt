@@ -2,3 +2,6 @@
 mod OrderLaws
 mod SearchLaws
 mod NodesLaws
+mod PathsLaws
+mod RefusalsLaws
+mod PlanCodeLaws

@@ -16,7 +16,7 @@ use Rattle.selector.specs.Refusals.{Sound}
 use Rattle.selector.specs.RunLaws.{whole}
 use Rattle.selector.specs.Search.{constantsOver, degreeOver}
 use Rattle.selector.specs.Tree.{Tree, depth, fork, leaf, size}
-use Rattle.tree.specs.Shapes.{Done, Room, walked}
+use Rattle.tree.specs.Layout.{Done, Room, walked}
 use Rattle.tree.specs.declared.nodes.Stats.{Stats}
 use borrow.Fn.PlainCycle.{is}
 

@@ -1,41 +1,16 @@
--- A tree's shape (node words, D, K and F), and the vocabulary of the pass that lays it out.
+-- The words of a tree in a plan: its nodes in preorder, D, K and F. Where there is no tree they are zeros.
 --
--- Main definitions: `shapeOf`, `walked`, `Room`, `Done`.
-use Prim.Native.Nat.{_+_, _<_, _≤_, max, ℕ}
+-- Main definition: `shapeOf`.
+use Prim.Native.Nat.{ℕ}
 use lib.ListN.{replicate}
 use mathlib.Core.List.{List}
 use mathlib.Core.Option.{Option, none, some}
-use mathlib.Core.Path.{_≡_}
-use Rattle.selector.specs.GrowthLaws.{In}
-use Rattle.selector.specs.Nodes.{Holds, laid, nodeWords}
-use Rattle.selector.specs.Search.{constantsOver, degreeOver, factor, treeD, treeF, treeK}
-use Rattle.selector.specs.Tree.{Tree, depth, size}
+use Rattle.selector.specs.Nodes.{nodeWords}
+use Rattle.selector.specs.Search.{factor, treeD, treeF, treeK}
+use Rattle.selector.specs.Tree.{Tree, size}
 use Rattle.tree.specs.declared.nodes.Shape.{Shape}
-use Rattle.tree.specs.declared.nodes.Stats.{Stats}
 
 -- a tree's nodes in preorder, over zeros; no tree: all zeros
 abbrev pub shapeOf : ℕ → List ℕ → Option Tree → Shape
 shapeOf x gs none = record { nodes = replicate 765 0; count = 0; degree = 0; constants = 0; factor = 0 }
 shapeOf x gs (some t) = record { nodes = nodeWords t; count = size t; degree = treeD gs t; constants = treeK x gs t; factor = treeF gs t }
-
--- what a walk over a tree at depth d adds to what was counted before
-abbrev pub walked : ℕ → List ℕ → ℕ → Tree → Stats → Stats
-walked x gs d t s =
-    record {
-      next = s .next + size t;
-      degree = max (s .degree) (degreeOver gs d t);
-      constants = max (s .constants) (constantsOver x gs d t);
-    }
-
--- a tree of listed gates stands at node i, less than f deep, and there is room for it from node `next` on
-pub record Room (m : ℕ) (old : List ℕ) (i f next : ℕ) : Type 0 where
-  pub tree : Tree
-  pub holds : Holds old 255 i tree
-  pub listed : (g : ℕ) → In g tree → g < m
-  pub room : next + size tree ≤ 255
-  pub deep : depth tree < f
-
--- the tree t at depth d is laid out, and its stats are taken
-pub record Done (x : ℕ) (gs : List ℕ) (d : ℕ) (t : Tree) (s : Stats) (new out : List ℕ) (r : Stats) : Type 0 where
-  pub nodes : out ≡ laid t (s .next) new
-  pub sums : r ≡ walked x gs d t s

@@ -1,0 +1,322 @@
+-- `made_up::visit` meets its contract, by the tree that stands at the node: no tree where the levels run out, a leaf is met, and a fork's right side is
+-- walked where the left side was fine. The levels fall.
+-- Assumes nothing.
+use Prim.Native.Nat.{_<_, ℕ}
+use mathlib.Core.Path.{refl}
+use native.Mathlib.Omega.{arith}
+use Rattle.selector.specs.Walk.{lost}
+use Rattle.selector.specs.WalkLaws.{visit-go, visit-leaf, visit-none, visit-stop}
+use Rattle.tree.specs.Walks.{walk}
+use borrow.Fn.Kinds.{In}
+use borrow.Fn.PlainCycle.{Measures, is, falls, and}
+use Rattle.tree.proofs.made_up.visit.Reads as visit
+use Rattle.tree.proofs.made_up.visit.Kinds as visit-kinds
+use Rattle.tree.proofs.made_up.+visit.Lts-visit as visit-lts
+use Rattle.tree.proofs.made_up.meet.Reads as meet-reads
+use Rattle.tree.proofs.made_up.+visit.{statement}
+use Rattle.tree.proofs.made_up.+visit.Tie.{close}
+
+abbrev μ-visit : Measures 2 visit-kinds.ps ℕ
+μ-visit κs a = a .1 .1 .1 .1 .1 .1 .1 .0
+
+abbrev visit-at : ℕ → In 2 visit-kinds.ps
+visit-at t = and 2 visit-kinds.ps (is 2 visit-kinds.ps μ-visit t) visit.Pre
+
+abbrev visit-below : ℕ → In 2 visit-kinds.ps
+visit-below t = and 2 visit-kinds.ps (falls 2 visit-kinds.ps _<_ μ-visit t) visit.Pre
+
+visit-returns : (t : ℕ) → visit-lts.Need-returns (
+  meet-reads.Asked,
+  meet-reads.Learnt,
+  visit-below t,
+  visit.Post,
+) (visit-at t) visit.Post
+visit-returns t c =
+    let s = c .before .before in
+    let a = s .args in
+    let p = s .pre .1 in
+    (visit-none (a .extra) (a .gates .now) (a .many) (a .nodes .now) (a .at) (a .level) (walk (a .marks .now) (a .seen)) (a .levels) (lost (walk (a .marks .now) (a .seen))) (c .if1 .taken) refl, omega arith)
+
+visit-mul-left : (t : ℕ) → visit-lts.Need-mul-left (
+  meet-reads.Asked,
+  meet-reads.Learnt,
+  visit-below t,
+  visit.Post,
+) (visit-at t) visit.Post
+visit-mul-left t c =
+    let s = c .before .before in
+    let a = s .args in
+    let p = s .pre .1 in
+    omega (arith, p .1 .1)
+
+visit-mul-left-2 : (t : ℕ) → visit-lts.Need-mul-left-2 (
+  meet-reads.Asked,
+  meet-reads.Learnt,
+  visit-below t,
+  visit.Post,
+) (visit-at t) visit.Post
+visit-mul-left-2 t c =
+    let s = c .before .before in
+    let a = s .args in
+    let p = s .pre .1 in
+    omega (arith, p .1 .1)
+
+visit-element-copy-out-left : (t : ℕ) → visit-lts.Need-element-copy-out-left (
+  meet-reads.Asked,
+  meet-reads.Learnt,
+  visit-below t,
+  visit.Post,
+) (visit-at t) visit.Post
+visit-element-copy-out-left t c =
+    let s = c .before .before in
+    let a = s .args in
+    let p = s .pre .1 in
+    omega (arith, p .1 .1)
+
+visit-mul-meet : (t : ℕ) → visit-lts.Need-mul-meet (
+  meet-reads.Asked,
+  meet-reads.Learnt,
+  visit-below t,
+  visit.Post,
+) (visit-at t) visit.Post
+visit-mul-meet t c =
+    let s = c .before .before .before .before .before in
+    let a = s .args in
+    let p = s .pre .1 in
+    omega (arith, p .1 .1)
+
+visit-add-meet : (t : ℕ) → visit-lts.Need-add-meet (
+  meet-reads.Asked,
+  meet-reads.Learnt,
+  visit-below t,
+  visit.Post,
+) (visit-at t) visit.Post
+visit-add-meet t c =
+    let s = c .before .before .before .before .before in
+    let a = s .args in
+    let p = s .pre .1 in
+    omega (arith, p .1 .1)
+
+visit-mul-meet-2 : (t : ℕ) → visit-lts.Need-mul-meet-2 (
+  meet-reads.Asked,
+  meet-reads.Learnt,
+  visit-below t,
+  visit.Post,
+) (visit-at t) visit.Post
+visit-mul-meet-2 t c =
+    let s = c .before .before .before .before .before in
+    let a = s .args in
+    let p = s .pre .1 in
+    omega (arith, p .1 .1)
+
+visit-element-copy-out-meet : (t : ℕ) → visit-lts.Need-element-copy-out-meet (
+  meet-reads.Asked,
+  meet-reads.Learnt,
+  visit-below t,
+  visit.Post,
+) (visit-at t) visit.Post
+visit-element-copy-out-meet t c =
+    let s = c .before .before .before .before .before in
+    let a = s .args in
+    let p = s .pre .1 in
+    omega (arith, p .1 .1)
+
+visit-meet-requires : (t : ℕ) → visit-lts.Need-meet-requires (
+  meet-reads.Asked,
+  meet-reads.Learnt,
+  visit-below t,
+  visit.Post,
+) (visit-at t) visit.Post
+visit-meet-requires t c κs =
+    let s = c .before .before .before .before .before .before in
+    let a = s .args in
+    let p = s .pre .1 in
+    (p .0, omega (arith, p .1 .1))
+
+visit-returns-2 : (t : ℕ) → visit-lts.Need-returns-2 (
+  meet-reads.Asked,
+  meet-reads.Learnt,
+  visit-below t,
+  visit.Post,
+) (visit-at t) visit.Post
+visit-returns-2 t c =
+    let s = c .before .before .before .before .before .before .before in
+    let a = s .args in
+    let p = s .pre .1 in
+    (visit-leaf (a .extra) (a .gates .now) (a .many) (a .nodes .now) (a .at) (a .level) (walk (a .marks .now) (a .seen)) (a .levels) _ (omega (arith, c .before .before .before .before .before .if1 .left)) (c .before .before .before .if2 .taken) (c .meet .ensures .0), c .meet .ensures .1)
+
+visit-add-visit : (t : ℕ) → visit-lts.Need-add-visit (
+  meet-reads.Asked,
+  meet-reads.Learnt,
+  visit-below t,
+  visit.Post,
+) (visit-at t) visit.Post
+visit-add-visit t c =
+    let s = c .before .before .before .before .before in
+    let a = s .args in
+    let p = s .pre .1 in
+    omega (arith, p .1 .1)
+
+visit-sub-visit : (t : ℕ) → visit-lts.Need-sub-visit (
+  meet-reads.Asked,
+  meet-reads.Learnt,
+  visit-below t,
+  visit.Post,
+) (visit-at t) visit.Post
+visit-sub-visit t c =
+    let s = c .before .before .before .before .before in
+    let a = s .args in
+    let p = s .pre .1 in
+    omega (arith, p .1 .1, c .before .before .before .if1 .left)
+
+visit-visit-requires : (t : ℕ) → visit-lts.Need-visit-requires (
+  meet-reads.Asked,
+  meet-reads.Learnt,
+  visit-below t,
+  visit.Post,
+) (visit-at t) visit.Post
+visit-visit-requires t c κs =
+    let s = c .before .before .before .before .before in
+    let a = s .args in
+    let p = s .pre .1 in
+    (omega (arith, c .before .before .before .if1 .left), (p .0, (p .1 .0, (p .1 .0 (a .at) (p .1 .1 .0) (c .before .if2 .left) .0, p .1 .1 .1, omega (arith, p .1 .1, c .before .before .before .if1 .left)))))
+
+visit-mul-right : (t : ℕ) → visit-lts.Need-mul-right (
+  meet-reads.Asked,
+  meet-reads.Learnt,
+  visit-below t,
+  visit.Post,
+) (visit-at t) visit.Post
+visit-mul-right t c =
+    let s = c .before .before .before .before .before .before .before in
+    let a = s .args in
+    let p = s .pre .1 in
+    omega (arith, p .1 .1)
+
+visit-add-right : (t : ℕ) → visit-lts.Need-add-right (
+  meet-reads.Asked,
+  meet-reads.Learnt,
+  visit-below t,
+  visit.Post,
+) (visit-at t) visit.Post
+visit-add-right t c =
+    let s = c .before .before .before .before .before .before .before in
+    let a = s .args in
+    let p = s .pre .1 in
+    omega (arith, p .1 .1)
+
+visit-mul-right-2 : (t : ℕ) → visit-lts.Need-mul-right-2 (
+  meet-reads.Asked,
+  meet-reads.Learnt,
+  visit-below t,
+  visit.Post,
+) (visit-at t) visit.Post
+visit-mul-right-2 t c =
+    let s = c .before .before .before .before .before .before .before in
+    let a = s .args in
+    let p = s .pre .1 in
+    omega (arith, p .1 .1)
+
+visit-element-copy-out-right : (t : ℕ) → visit-lts.Need-element-copy-out-right (
+  meet-reads.Asked,
+  meet-reads.Learnt,
+  visit-below t,
+  visit.Post,
+) (visit-at t) visit.Post
+visit-element-copy-out-right t c =
+    let s = c .before .before .before .before .before .before .before in
+    let a = s .args in
+    let p = s .pre .1 in
+    omega (arith, p .1 .1)
+
+visit-add-visit-2 : (t : ℕ) → visit-lts.Need-add-visit-2 (
+  meet-reads.Asked,
+  meet-reads.Learnt,
+  visit-below t,
+  visit.Post,
+) (visit-at t) visit.Post
+visit-add-visit-2 t c =
+    let s = c .before .before .before .before .before .before .before .before .before in
+    let a = s .args in
+    let p = s .pre .1 in
+    omega (arith, p .1 .1)
+
+visit-sub-visit-2 : (t : ℕ) → visit-lts.Need-sub-visit-2 (
+  meet-reads.Asked,
+  meet-reads.Learnt,
+  visit-below t,
+  visit.Post,
+) (visit-at t) visit.Post
+visit-sub-visit-2 t c =
+    let s = c .before .before .before .before .before .before .before .before .before in
+    let a = s .args in
+    let p = s .pre .1 in
+    omega (arith, p .1 .1, c .before .before .before .before .before .before .before .if1 .left)
+
+visit-visit-requires-2 : (t : ℕ) → visit-lts.Need-visit-requires-2 (
+  meet-reads.Asked,
+  meet-reads.Learnt,
+  visit-below t,
+  visit.Post,
+) (visit-at t) visit.Post
+visit-visit-requires-2 t c κs =
+    let s = c .before .before .before .before .before .before .before .before .before in
+    let a = s .args in
+    let p = s .pre .1 in
+    (omega (arith, c .before .before .before .before .before .before .before .if1 .left), (p .0, (p .1 .0, (p .1 .0 (a .at) (p .1 .1 .0) (c .before .before .before .before .before .if2 .left) .1, p .1 .1 .1, omega (arith, p .1 .1, c .before .before .before .before .before .before .before .if1 .left)))))
+
+visit-returns-3 : (t : ℕ) → visit-lts.Need-returns-3 (
+  meet-reads.Asked,
+  meet-reads.Learnt,
+  visit-below t,
+  visit.Post,
+) (visit-at t) visit.Post
+visit-returns-3 t c =
+    let s = c .before .before .before .before .before .before .before .before .before .before in
+    let a = s .args in
+    let p = s .pre .1 in
+    (visit-go (a .extra) (a .gates .now) (a .many) (a .nodes .now) (a .at) (a .level) (walk (a .marks .now) (a .seen)) (a .levels) (walk (c .before .before .before .before .visit .last .1 .1 .0) (c .before .before .before .before .visit .result)) _ (omega (arith, c .before .before .before .before .before .before .before .before .if1 .left)) (c .before .before .before .before .before .before .if2 .left) (c .before .before .before .before .visit .ensures .0) (c .before .before .before .if3 .taken) (c .visit2 .ensures .0), omega (arith, c .before .before .before .before .visit .ensures .1, c .visit2 .ensures .1))
+
+visit-returns-4 : (t : ℕ) → visit-lts.Need-returns-4 (
+  meet-reads.Asked,
+  meet-reads.Learnt,
+  visit-below t,
+  visit.Post,
+) (visit-at t) visit.Post
+visit-returns-4 t c =
+    let s = c .before .before .before .before .before .before .before in
+    let a = s .args in
+    let p = s .pre .1 in
+    (visit-stop (a .extra) (a .gates .now) (a .many) (a .nodes .now) (a .at) (a .level) (walk (a .marks .now) (a .seen)) (a .levels) _ (omega (arith, c .before .before .before .before .before .if1 .left)) (c .before .before .before .if2 .left) (c .before .visit .ensures .0) (c .if3 .left), c .before .visit .ensures .1)
+
+pub +visit-spec : {M : Type 1} → statement M
++visit-spec = close μ-visit λ t. visit-lts.spec (
+  meet-reads.Asked,
+  meet-reads.Learnt,
+  visit-below t,
+  visit.Post,
+)
+    (visit-at t)
+    visit.Post
+    (visit-returns t)
+    (visit-mul-left t)
+    (visit-mul-left-2 t)
+    (visit-element-copy-out-left t)
+    (visit-mul-meet t)
+    (visit-add-meet t)
+    (visit-mul-meet-2 t)
+    (visit-element-copy-out-meet t)
+    (visit-meet-requires t)
+    (visit-returns-2 t)
+    (visit-add-visit t)
+    (visit-sub-visit t)
+    (visit-visit-requires t)
+    (visit-mul-right t)
+    (visit-add-right t)
+    (visit-mul-right-2 t)
+    (visit-element-copy-out-right t)
+    (visit-add-visit-2 t)
+    (visit-sub-visit-2 t)
+    (visit-visit-requires-2 t)
+    (visit-returns-3 t)
+    (visit-returns-4 t)

@@ -1,0 +1,157 @@
+-- 01, 'When a call is turned down' and 'Gates and tree': what planning, the test for a made-up plan, paths and the table-id index answer, for any arguments.
+--
+-- Main definitions: `planNumber`, `planned`, `planFault`, `pathAnswer`, `tableIdAnswer`.
+use Prim.Native.Nat.{_*_, ℕ}
+use lib.Dec.{eqb, leb, ltb}
+use lib.ListN.{drop, length, replicate, take}
+use mathlib.Core.List.{List, [], _++_}
+use mathlib.Core.Option.{Option, none, some}
+use Rattle.base.specs.Firsts.{orNumber}
+use Rattle.base.specs.Pick.{pick}
+use Rattle.selector.specs.Gates.{gateWords}
+use Rattle.selector.specs.MadeUp.{mostLevels, nodesFit}
+use Rattle.selector.specs.Nodes.{treeAt}
+use Rattle.selector.specs.Paths.{bitsOf, pathOf}
+use Rattle.selector.specs.Refusals.{extraOf, gateCount, gatesNumber, mostGates, wordsFit}
+use Rattle.selector.specs.Search.{factor, planTree}
+use Rattle.selector.specs.Tree.{Tree}
+use Rattle.tree.specs.Lookup.{flagOf, modeOf, shareOf, widthOf}
+use Rattle.tree.specs.Parameters.{lookupOf, parametersNumber}
+use Rattle.tree.specs.Shapes.{shapeOf}
+use Rattle.tree.specs.declared.lookup.LookupParameters.the-variants.{NoLookup}
+use Rattle.tree.specs.declared.nodes.Shape.{Shape}
+use Rattle.tree.specs.declared.parameters.Parameters.{Parameters}
+use Rattle.tree.specs.declared.plan.Path.{Path}
+use Rattle.tree.specs.declared.plan.Plan.{Plan}
+use Rattle.tree.specs.declared.plan.TableId.{TableId}
+use Rattle.tree.specs.declared.planning.Planned.{Planned}
+
+-- "Refused planning, path or opening hands back a plan, path or state of zeros"
+abbrev pub zeroPlan : Plan
+zeroPlan =
+    record {
+      trace = 0;
+      copy = 0;
+      allowed = 0;
+      specialised = 0;
+      variables = 0;
+      lookup = NoLookup;
+      gates = replicate 384 0;
+      «gate_count» = 0;
+      nodes = replicate 765 0;
+      «node_count» = 0;
+      degree = 0;
+      constants = 0;
+      factor = 0;
+    }
+
+-- the refusals 1 to 7 of parameter and gate words, the first that comes
+unfoldable pub wordsNumber : Parameters → List ℕ → ℕ
+wordsNumber ps gs = orNumber (parametersNumber ps) (pick (wordsFit gs) (gatesNumber (ps .mode) (ps .allowed) gs (gateCount gs)) 3)
+
+-- the tree of parameter and gate words
+abbrev pub treeFor : Parameters → List ℕ → Option Tree
+treeFor ps gs = planTree (extraOf (ps .mode)) gs (gateCount gs)
+
+-- "8 all targets failed"
+abbrev pub treeNumber : Option Tree → ℕ
+treeNumber none = 8
+treeNumber (some t) = 0
+
+-- planning's refusal, the first of 1 to 8 that comes, or 0
+unfoldable pub planNumber : Parameters → List ℕ → ℕ
+planNumber ps gs = orNumber (wordsNumber ps gs) (treeNumber (treeFor ps gs))
+
+-- gate words in a plan's array; unused words are 0
+abbrev pub padded : List ℕ → List ℕ
+padded gs = gs ++ drop (length gs) (replicate 384 0)
+
+-- the plan of parameter words, gate words and a shape
+abbrev pub planWith : Parameters → List ℕ → Shape → Plan
+planWith ps gs s =
+    record {
+      trace = ps .trace;
+      copy = ps .copy;
+      allowed = ps .allowed;
+      specialised = ps .specialised;
+      variables = ps .variables;
+      lookup = lookupOf ps;
+      gates = padded gs;
+      «gate_count» = gateCount gs;
+      nodes = s .nodes;
+      «node_count» = s .count;
+      degree = s .degree;
+      constants = s .constants;
+      factor = s .factor;
+    }
+
+-- the plan that planning gives; zeros after a refusal
+unfoldable pub planned : Parameters → List ℕ → Plan
+planned ps gs = pick (eqb (planNumber ps gs) 0) (planWith ps gs (shapeOf (extraOf (ps .mode)) gs (treeFor ps gs))) zeroPlan
+
+abbrev pub planAnswer : Parameters → List ℕ → Planned
+planAnswer ps gs = record { number = planNumber ps gs; plan = planned ps gs }
+
+abbrev pub refusedPlan : ℕ → Planned
+refusedPlan n = record { number = n; plan = zeroPlan }
+
+-- the parameter words of a plan
+abbrev pub parametersOf : Plan → Parameters
+parametersOf p =
+    record {
+      trace = p .trace;
+      copy = p .copy;
+      allowed = p .allowed;
+      specialised = p .specialised;
+      variables = p .variables;
+      mode = modeOf (p .lookup);
+      width = widthOf (p .lookup);
+      share = flagOf (shareOf (p .lookup));
+    }
+
+-- the gate words of a plan
+abbrev pub gatesGiven : Plan → List ℕ
+gatesGiven p = take (p .«gate_count» * gateWords) (p .gates)
+
+-- the lookup gate's constants in a plan
+abbrev pub planExtra : Plan → ℕ
+planExtra p = extraOf (modeOf (p .lookup))
+
+-- "19 is given for a made-up plan: parameters or gates that 1 to 7 turn down, a child not after its parent or past the nodes, a leaf below depth 31, leaves
+-- other than each placed gate just once, or D, K or F not the tree's."
+unfoldable pub planFault : Plan → ℕ
+planFault p =
+    pick (eqb (parametersNumber (parametersOf p)) 0)
+    (pick (leb 1 (p .«gate_count»))
+    (pick (leb (p .«gate_count») mostGates)
+    (pick (eqb (gatesNumber (modeOf (p .lookup)) (p .allowed) (gatesGiven p) (p .«gate_count»)) 0)
+    (pick (nodesFit (planExtra p) (gatesGiven p) (p .«gate_count») (p .nodes) (p .«node_count») (p .degree) (p .constants) (p .factor)) 0 19)
+    19) 19) 19) 19
+
+-- the path of a gate in a plan's tree; a gate at no leaf, a dropped one, has the empty path
+abbrev pub pathIn : Option Tree → ℕ → List ℕ
+pathIn none g = []
+pathIn (some t) g = pathOf g t
+
+abbrev pub planPath : Plan → ℕ → List ℕ
+planPath p g = pathIn (treeAt mostLevels (p .nodes) 0) g
+
+-- "Path: 19; 12 gate not listed."
+unfoldable pub pathAnswer : Plan → ℕ → Path
+pathAnswer p g =
+    pick (eqb (planFault p) 0)
+    (pick (ltb g (p .«gate_count»))
+    (record { number = 0; bits = bitsOf (planPath p g); length = length (planPath p g) })
+    (record { number = 12; bits = 0; length = 0 }))
+    (record { number = 19; bits = 0; length = 0 })
+
+-- "Table-id column: mode 2 the lookup path's length, mode 4 K, else none"; 19 first
+unfoldable pub tableIdAnswer : Plan → TableId
+tableIdAnswer p =
+    pick (eqb (planFault p) 0)
+    (pick (eqb (modeOf (p .lookup)) 2)
+    (record { number = 0; count = 1; index = length (planPath p 0) })
+    (pick (eqb (modeOf (p .lookup)) 4)
+    (record { number = 0; count = 1; index = p .constants })
+    (record { number = 0; count = 0; index = 0 })))
+    (record { number = 19; count = 0; index = 0 })

@@ -1,0 +1,87 @@
+// 01's lookup modes, as LookupParameters of cs/mod.rs orders them.
+ghost use mathlib.Core.Path.{_≡_};
+ghost use Rattle.tree.specs.Lookup.{widthOf, shareOf, modeOf};
+
+pub enum LookupParameters {
+    NoLookup,
+    TableIdAsVariable { width: u64, share_table_id: bool },
+    TableIdAsConstant { width: u64, share_table_id: bool },
+    UseSpecializedColumnsWithTableIdAsVariable { width: u64, share_table_id: bool },
+    UseSpecializedColumnsWithTableIdAsConstant { width: u64, share_table_id: bool },
+}
+
+impl LookupParameters {
+    pub fn lookup_width(self) -> u64
+        ensures { λ r. ⌜ r ≡ widthOf self ⌝ }
+    {
+        match self {
+            LookupParameters::NoLookup => 0,
+            LookupParameters::TableIdAsVariable {
+                width,
+                share_table_id: _,
+            } => width,
+            LookupParameters::TableIdAsConstant {
+                width,
+                share_table_id: _,
+            } => width,
+            LookupParameters::UseSpecializedColumnsWithTableIdAsVariable {
+                width,
+                share_table_id: _,
+            } => width,
+            LookupParameters::UseSpecializedColumnsWithTableIdAsConstant {
+                width,
+                share_table_id: _,
+            } => width,
+        }
+    }
+
+    // The Rust does not answer for NoLookup; here it is false.
+    pub fn share_table_id(self) -> bool
+        ensures { λ r. ⌜ r ≡ shareOf self ⌝ }
+    {
+        match self {
+            LookupParameters::NoLookup => false,
+            LookupParameters::TableIdAsVariable {
+                width: _,
+                share_table_id,
+            } => share_table_id,
+            LookupParameters::TableIdAsConstant {
+                width: _,
+                share_table_id,
+            } => share_table_id,
+            LookupParameters::UseSpecializedColumnsWithTableIdAsVariable {
+                width: _,
+                share_table_id,
+            } => share_table_id,
+            LookupParameters::UseSpecializedColumnsWithTableIdAsConstant {
+                width: _,
+                share_table_id,
+            } => share_table_id,
+        }
+    }
+
+    // The number of the mode.
+    pub fn mode(self) -> u64
+        ensures { λ r. ⌜ r ≡ modeOf self ⌝ }
+    {
+        match self {
+            LookupParameters::NoLookup => 0,
+            LookupParameters::TableIdAsVariable {
+                width: _,
+                share_table_id: _,
+            } => 1,
+            LookupParameters::TableIdAsConstant {
+                width: _,
+                share_table_id: _,
+            } => 2,
+            LookupParameters::UseSpecializedColumnsWithTableIdAsVariable {
+                width: _,
+                share_table_id: _,
+            } => 3,
+            LookupParameters::UseSpecializedColumnsWithTableIdAsConstant {
+                width: _,
+                share_table_id: _,
+            } => 4,
+        }
+    }
+}

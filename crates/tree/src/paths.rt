@@ -1,0 +1,64 @@
+// The path of a gate in a plan's nodes.
+ghost use mathlib.Core.Path.{_≡_};
+ghost use mathlib.Core.Option.{some};
+ghost use Prim.Native.Nat.{ℕ, _+_, _^_, _≤_, _<_};
+ghost use Rattle.selector.specs.Tree.{Tree};
+ghost use Rattle.selector.specs.Paths.{pathTo};
+ghost use Rattle.selector.specs.Nodes.{treeAt};
+ghost use Rattle.selector.specs.Walk.{Links};
+ghost use Rattle.tree.specs.Placements.{spelled};
+
+// A path's bits, the step from the root least, and its length; zeros where the gate was not found.
+pub struct Placement {
+    pub found: bool,
+    pub bits: u64,
+    pub length: u64,
+}
+
+// The path from a node to a gate, at most `levels` deep.
+pub fn output_placement(
+    nodes: &[u64; 765],
+    count: usize,
+    at: usize,
+    gate: u64,
+    levels: u64,
+) -> Placement
+    requires { ⌜ Links (now nodes) count ⌝ }
+    requires { ⌜ (at < count) × (count ≤ 255) × (levels ≤ 32) ⌝ }
+    ensures { λ r. ⌜ ((t : Tree) → treeAt levels (now (nodes .entry)) at ≡ some t → r ≡ spelled (pathTo gate t)) ⌝ }
+    ensures { λ r. ⌜ (r .bits < 2 ^ levels) × (r .length ≤ levels) ⌝ }
+{
+    if levels == 0 {
+        return Placement {
+            found: false,
+            bits: 0,
+            length: 0,
+        };
+    }
+    let left = nodes[at * 3] as usize;
+    if left == 0 {
+        return Placement {
+            found: gate == nodes[at * 3 + 2],
+            bits: 0,
+            length: 0,
+        };
+    }
+    let one = output_placement(nodes, count, left, gate, levels - 1);
+    if one.found {
+        return Placement {
+            found: true,
+            bits: one.bits * 2 + 1,
+            length: one.length + 1,
+        };
+    }
+    let right = nodes[at * 3 + 1] as usize;
+    let two = output_placement(nodes, count, right, gate, levels - 1);
+    if two.found {
+        return Placement {
+            found: true,
+            bits: two.bits * 2,
+            length: two.length + 1,
+        };
+    }
+    two
+}

@@ -1,0 +1,195 @@
+// Plans by value: the test for a made-up plan, paths and the table-id index.
+ghost use mathlib.Core.Path.{_≡_};
+ghost use Rattle.tree.specs.Lookup.{flagOf};
+ghost use Rattle.tree.specs.Plan.{zeroPlan, parametersOf, planFault, pathAnswer, tableIdAnswer};
+use crate::gates::GATE_WORDS;
+use crate::lookup::LookupParameters;
+use crate::made_up::nodes_fit;
+use crate::parameters::Parameters;
+use crate::paths::output_placement;
+use crate::refusals::extra_of;
+use crate::refusals::gates_number;
+use crate::refusals::words_fit;
+
+// Parameters, lookup mode, gates, and the tree in preorder, three words a node; D, K and F. Unused words are 0 in a plan that planning made.
+pub struct Plan {
+    pub trace: u64,
+    pub copy: u64,
+    pub allowed: u64,
+    pub specialised: u64,
+    pub variables: u64,
+    pub lookup: LookupParameters,
+    pub gates: [u64; 384],
+    pub gate_count: u64,
+    pub nodes: [u64; 765],
+    pub node_count: u64,
+    pub degree: u64,
+    pub constants: u64,
+    pub factor: u64,
+}
+
+// A refusal number, or 0, and a path: bit i, from the least, is step i from the root.
+pub struct Path {
+    pub number: u64,
+    pub bits: u64,
+    pub length: u64,
+}
+
+// A refusal number, or 0, and how many table-id columns there are, none or one, with its index.
+pub struct TableId {
+    pub number: u64,
+    pub count: u64,
+    pub index: u64,
+}
+
+// The share flag as a word.
+fn flag_of(share: bool) -> u64
+    ensures { λ r. ⌜ r ≡ flagOf share ⌝ }
+{
+    if share {
+        return 1;
+    }
+    0
+}
+
+impl Plan {
+    // The plan of zeros that a refusal hands back.
+    pub fn zero() -> Self
+        ensures { λ r. ⌜ r ≡ zeroPlan ⌝ }
+    {
+        Plan {
+            trace: 0,
+            copy: 0,
+            allowed: 0,
+            specialised: 0,
+            variables: 0,
+            lookup: LookupParameters::NoLookup,
+            gates: [0; 384],
+            gate_count: 0,
+            nodes: [0; 765],
+            node_count: 0,
+            degree: 0,
+            constants: 0,
+            factor: 0,
+        }
+    }
+
+    // The parameter words of a plan.
+    pub fn parameters(self) -> Parameters
+        ensures { λ r. ⌜ r ≡ parametersOf self ⌝ }
+    {
+        let lookup = self.lookup;
+        Parameters {
+            trace: self.trace,
+            copy: self.copy,
+            allowed: self.allowed,
+            specialised: self.specialised,
+            variables: self.variables,
+            mode: lookup.mode(),
+            width: lookup.lookup_width(),
+            share: flag_of(lookup.share_table_id()),
+        }
+    }
+
+    // 19 for a made-up plan, else 0.
+    pub fn fault(self) -> u64
+        ensures { λ r. ⌜ r ≡ planFault self ⌝ }
+    {
+        let parameters = self.parameters();
+        if parameters.number() != 0 {
+            return 19;
+        }
+        let count = self.gate_count;
+        if count < 1 {
+            return 19;
+        }
+        if 128 < count {
+            return 19;
+        }
+        let many = count as usize;
+        let end = many * GATE_WORDS;
+        let gates = self.gates;
+        let words = &gates[..end];
+        if gates_number(words, many, parameters.mode, self.allowed) != 0 {
+            return 19;
+        }
+        let nodes = self.nodes;
+        let extra = extra_of(parameters.mode);
+        let fit = nodes_fit(
+            words,
+            &nodes,
+            many,
+            self.node_count as usize,
+            extra,
+            self.degree,
+            self.constants,
+            self.factor,
+        );
+        if fit {
+            return 0;
+        }
+        19
+    }
+
+    // The path of a gate: 19 first, then 12 for a gate that is not listed. A dropped gate's path is empty.
+    pub fn path(self, gate: u64) -> Path
+        ensures { λ r. ⌜ r ≡ pathAnswer self gate ⌝ }
+    {
+        if self.fault() != 0 {
+            return Path {
+                number: 19,
+                bits: 0,
+                length: 0,
+            };
+        }
+        if self.gate_count <= gate {
+            return Path {
+                number: 12,
+                bits: 0,
+                length: 0,
+            };
+        }
+        let nodes = self.nodes;
+        let found = output_placement(&nodes, self.node_count as usize, 0, gate, 32);
+        Path {
+            number: 0,
+            bits: found.bits,
+            length: found.length,
+        }
+    }
+
+    // The index of the table-id column: in mode 2 the lookup path's length, in mode 4 K, else there is none. 19 first.
+    pub fn table_id(self) -> TableId
+        ensures { λ r. ⌜ r ≡ tableIdAnswer self ⌝ }
+    {
+        let path = self.path(0);
+        if path.number != 0 {
+            return TableId {
+                number: 19,
+                count: 0,
+                index: 0,
+            };
+        }
+        let lookup = self.lookup;
+        let mode = lookup.mode();
+        if mode == 2 {
+            return TableId {
+                number: 0,
+                count: 1,
+                index: path.length,
+            };
+        }
+        if mode == 4 {
+            return TableId {
+                number: 0,
+                count: 1,
+                index: self.constants,
+            };
+        }
+        TableId {
+            number: 0,
+            count: 0,
+            index: 0,
+        }
+    }
+}
