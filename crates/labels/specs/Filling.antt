@@ -63,7 +63,8 @@ pub column-next : (n c column : ℕ) (reps old x y : List ℕ) → ColumnZero n 
     → Filled (scaledFrom (getD reps column 0) (column * n) x) (column * n) (column * n + n) x y → Filled (labelOf n reps) n ((column + 1) * n) old y
 column-next n c column reps old x y z o done new =
     let next : column * n + n ≡ (column + 1) * n = omega arith in
-    rw next at (filled-join (labelOf n reps) n (column * n) (column * n + n) old x y (omega (arith, mul-le-mul-right n o)) (omega arith) done (filled-same (scaledFrom (getD reps column 0) (column * n) x) (labelOf n reps) (column * n) (column * n + n) x y same new))
+    let here = filled-same (scaledFrom (getD reps column 0) (column * n) x) (labelOf n reps) (column * n) (column * n + n) x y same new in
+    rw next at (filled-join (labelOf n reps) n (column * n) (column * n + n) old x y (omega (arith, mul-le-mul-right n o)) (omega arith) done here)
   where
     same : (i : ℕ) → column * n ≤ i → i < column * n + n → scaledFrom (getD reps column 0) (column * n) x i ≡ labelOf n reps i
     same i h l =

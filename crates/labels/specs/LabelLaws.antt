@@ -66,14 +66,19 @@ module _ (n c : ℕ) (r : Ranges n c) (reps : List ℕ) (cosets : Cosets p n c (
   row-of : (i : ℕ) → i % n < 2 ^ exponent n
   row-of i = rw (r .power) (mod-lt i (some-row n c r))
 
+  root : Root p (exponent n) (domainGenerator n)
+  root = generator-root n c r
+
   pub label-nonzero : (i : ℕ) → i < c * n → labelOf n reps i ≢ 0
   label-nonzero i h q =
-      coset-nonzero p (omega arith) (exponent n) (domainGenerator n) (generator-root n c r) c (columnRep reps) cosets' (i / n) (i % n) (column-of i h) (row-of i)
-      (sym (label-product n reps i) ∙ q)
+      coset-nonzero p (omega arith) (exponent n) (domainGenerator n) root c (columnRep reps) cosets'
+      (i / n) (i % n) (column-of i h) (row-of i) (sym (label-product n reps i) ∙ q)
 
   pub label-apart : (i j : ℕ) → i < c * n → j < c * n → labelOf n reps i ≡ labelOf n reps j → i ≡ j
   label-apart i j hi hj q =
-      let d = coset-apart p (omega arith) (exponent n) (domainGenerator n) (generator-root n c r) c (columnRep reps) cosets' (i / n) (j / n) (i % n) (j % n) (column-of i hi) (column-of j hj) (row-of i) (row-of j) (sym (label-product n reps i) ∙ q ∙ label-product n reps j) in
+      let e = sym (label-product n reps i) ∙ q ∙ label-product n reps j in
+      let d = coset-apart p (omega arith) (exponent n) (domainGenerator n) root c (columnRep reps) cosets'
+      (i / n) (j / n) (i % n) (j % n) (column-of i hi) (column-of j hj) (row-of i) (row-of j) e in
       sym (div-add-mod i n) ∙ rw (d .0, d .1) (div-add-mod j n)
 
   -- a list that begins with the labels of all cells

@@ -106,7 +106,11 @@ fn main() {
     let refused = replay::word_at(bytes, 3);
     let records = Replay::new().step().step().step().step();
     let taken = replay_accepted_records(bytes, records, accepted);
-    let s = replay_refused_records(bytes, taken, refused);
+    let all = replay_refused_records(bytes, taken, refused);
+    let version = all.note(replay::word_at(bytes, 0) == 1);
+    let s = version
+        .note(length / 8 == all.at as usize)
+        .note(length % 8 == 0);
     line(b"accepted records ", accepted);
     line(b"refused records ", refused);
     line(b"words ", s.at);

@@ -65,16 +65,20 @@ same-length c = search needs
 
 returns-2 : tie.Need-returns-2
 returns-2 c =
-    let a = c .before .before .before .before .before .before .before .before .before .before .before .before .before .before .before .before .before .args in
-    let g = c .before .before .before .before .before .before .before .before .before .before .before .before .representatives .ensures in
-    let same = fill-number (a .n) (a .c) (a .copies .now) (fits (c .before .before .before .before .before .before .before .before .before .before .before .before .before .before)) (c .before .before .before .before .before .before .before .before .before .before .before .before .before .if2 .taken) in
-    let z : representativesNumber (a .n) (a .c) ≡ 0 = sym (g .0) ∙ c .before .before .before .before .before .before .before .before .before .before .if3 .left in
+    let found = c .before .before .before .before .before .before .before .before .before .before in
+    let room = found .before .before .before in
+    let a = room .before .before .before .before .args in
+    let n = a .n in
+    let old = a .copies .now in
+    let reps = representativesOf n (a .c) in
+    let g = found .before .before .representatives .ensures in
+    let same = fill-number n (a .c) old (fits (room .before)) (room .if2 .taken) in
+    let z : representativesNumber n (a .c) ≡ 0 = sym (g .0) ∙ found .if3 .left in
     let first = c .before .before .before .before .before .before .before .materialize-x-poly .ensures in
     let rest = rw (g .1) at (c .before .before .materialize-x-by-non-residue-polys .ensures) in
-    let whole = all-columns (a .n) (a .c) (representativesOf (a .n) (a .c)) (a .copies .now) _ _ (ranges (c .before .before .before .before .before .before .before .before .before .before .before .before .before .before) .some-column) (column-zero (a .n) (a .c) z) first rest in (
+    let whole = all-columns n (a .c) reps old _ _ (ranges (room .before) .some-column) (column-zero n (a .c) z) first rest in (
       sym (same ∙ z),
-      filled-list (labelOf (a .n) (representativesOf (a .n) (a .c))) (a .c * a .n) (a .copies .now) _ (c .before .before .before .before .before .before .before .before .before .before .before .before .before .if2 .taken) whole
-          ∙ sym (written-is (a .n) (a .c) (a .copies .now) (same ∙ z)),
+      filled-list (labelOf n reps) (a .c * n) old _ (room .if2 .taken) whole ∙ sym (written-is n (a .c) old (same ∙ z)),
     )
 
 returns-3 : tie.Need-returns-3

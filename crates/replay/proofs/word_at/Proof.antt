@@ -101,7 +101,19 @@ add-result-3 : tie.Need-add-result-3
 add-result-3 c = search needs
 
 returns-2 : tie.Need-returns-2
-returns-2 c = simp (lt-leb _ _ (c .before .before .before .before .before .before .before .before .if1 .left)) (omega (arith, c .before .before .before .before .before .before .before .byte-at .ensures .0, c .before .before .before .before .before .before .byte-at2 .ensures .0, c .before .before .before .before .before .byte-at3 .ensures .0, c .before .before .before .before .byte-at4 .ensures .0, c .before .before .before .byte-at5 .ensures .0, c .before .before .byte-at6 .ensures .0, c .before .byte-at7 .ensures .0, c .byte-at8 .ensures .0))
+returns-2 c =
+    simp (lt-leb _ _ (c .before .before .before .before .before .before .before .before .if1 .left))
+    (omega (
+      arith,
+      c .before .before .before .before .before .before .before .byte-at .ensures .0,
+      c .before .before .before .before .before .before .byte-at2 .ensures .0,
+      c .before .before .before .before .before .byte-at3 .ensures .0,
+      c .before .before .before .before .byte-at4 .ensures .0,
+      c .before .before .before .byte-at5 .ensures .0,
+      c .before .before .byte-at6 .ensures .0,
+      c .before .byte-at7 .ensures .0,
+      c .byte-at8 .ensures .0,
+    ))
 
 pub word-at-spec : {M : Type 1} → statement M
 word-at-spec =
