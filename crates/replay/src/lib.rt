@@ -6,7 +6,7 @@ ghost use lib.ListN.{getD};
 ghost use Rattle.replay.specs.Replay.{wordAt, started, stepped, compared, noted};
 
 // The byte at a place, 0 past the end.
-pub fn byte_at(bytes: &[u8], at: usize) -> u64
+fn byte_at(bytes: &[u8], at: usize) -> u64
     ensures { λ r. ⌜ (r ≡ getD (now (bytes .entry)) at 0) × (r < 256) ⌝ }
 {
     if at < bytes.len() {
