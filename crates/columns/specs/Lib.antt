@@ -3,3 +3,4 @@ pub mod Digits
 pub mod Placed
 pub mod Stacked
 pub mod TreeLaws
+pub mod PlanLaws
