@@ -78,9 +78,7 @@ fn sorted(mut gates: Vec<Gate>) -> Vec<Gate> {
 pub fn search(gates: &[Gate]) -> Result<Found, u64> {
     let gates = match gates {
         // "A list of one gate is a lone leaf."
-        [lone] => {
-            return Ok(Found { tree: Tree::Leaf(*lone), target_number: 0, bound_number: 0 })
-        }
+        [lone] => return Ok(Found { tree: Tree::Leaf(*lone), target_number: 0, bound_number: 0 }),
         _ => sorted(placed(gates)),
     };
     // "M is the greatest degree at depth 0"
@@ -121,7 +119,8 @@ impl Tree {
 
     /// "D is the greatest degree at depth".
     pub fn d(&self) -> u64 {
-        let depths = self.leaves().into_iter().map(|(gate, path)| gate.degree_at(path.len() as u64));
+        let depths =
+            self.leaves().into_iter().map(|(gate, path)| gate.degree_at(path.len() as u64));
         depths.max().unwrap()
     }
 

@@ -58,11 +58,19 @@ impl Circuit {
         let words = |w: &[u64]| runs(&w.iter().map(name).collect::<Vec<_>>(), " ");
         let sections = [
             format!("8: {}", list(&self.parameters)),
-            format!("{}: {}", self.gates.len(), records(self.gates.iter().map(|g| &g[..]).collect())),
+            format!(
+                "{}: {}",
+                self.gates.len(),
+                records(self.gates.iter().map(|g| &g[..]).collect())
+            ),
             format!("{}: {}", self.rows.len(), records(self.rows.iter().map(|g| &g[..]).collect())),
             format!("{}: {}", self.s_words.len(), words(&self.s_words)),
             format!("{}: {}", self.cells.len(), words(&self.cells)),
-            format!("{}: {}", self.tables.len(), records(self.tables.iter().map(|g| &g[..]).collect())),
+            format!(
+                "{}: {}",
+                self.tables.len(),
+                records(self.tables.iter().map(|g| &g[..]).collect())
+            ),
         ];
         sections.map(|s| s.trim_end_matches(": ").to_string()).join("; ")
     }

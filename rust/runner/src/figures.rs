@@ -26,7 +26,10 @@ impl Figures {
         self.accepted += 1;
         self.count("by mode", mode);
         self.count("by N", n);
-        self.count("by gates, rounded up to a power of two", circuit.gates.len().next_power_of_two() as u64);
+        self.count(
+            "by gates, rounded up to a power of two",
+            circuit.gates.len().next_power_of_two() as u64,
+        );
         self.mark("C = 1", c == 1);
         self.mark("C = 64", c == 64);
         self.mark("coset region, N >= 64 and C >= 24", n >= 64 && c >= 24);

@@ -11,6 +11,7 @@ mod figures;
 mod generate;
 mod pieces;
 mod random;
+mod record;
 
 use circuit::Circuit;
 use compare::{compare, Verdict};
@@ -36,7 +37,9 @@ fn random(count: u64, seed: u64) {
         match compare(&circuit, Some(&mut r)) {
             Verdict::Same => figures.accept(&circuit),
             Verdict::Refused(8, Some(_)) => figures.refused_8 += 1,
-            Verdict::Refused(number, _) => report(&circuit, &format!("the model refused: {number}")),
+            Verdict::Refused(number, _) => {
+                report(&circuit, &format!("the model refused: {number}"))
+            }
             Verdict::Different(what) => report(&circuit, &what),
         }
     }
@@ -54,6 +57,7 @@ fn main() {
     let arguments: Vec<&str> = arguments.iter().map(|x| x.as_str()).collect();
     match arguments[..] {
         ["random", count, seed] => random(number(count), number(seed)),
+        ["record", folder, seed] => record::run(folder, number(seed)),
         ["exhaustive"] => exhaustive::run(),
         _ => {
             eprintln!("runner random COUNT SEED | exhaustive | differences | record FOLDER SEED");
