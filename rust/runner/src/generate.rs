@@ -90,8 +90,8 @@ fn variables(r: &mut Random, cells: u64) -> u64 {
         5..=14 => 1,
         15 => 1048576,
         16..=49 => r.within(1, 8),
-        50..=69 => cells,
-        _ => r.within(1, cells),
+        50..=69 => cells.min(1048576),
+        _ => r.within(1, cells.min(1048576)),
     }
 }
 

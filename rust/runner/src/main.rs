@@ -21,7 +21,7 @@ use random::Random;
 fn report(circuit: &Circuit, what: &str) -> ! {
     println!("DIFFERENT: {what}");
     let text = circuit.written();
-    let cut: String = text.chars().take(4000).collect();
+    let cut: String = text.chars().take(1000).collect();
     println!("  {cut}");
     std::process::exit(1)
 }

@@ -1,7 +1,7 @@
 //! The model on a circuit cut at random, sections alternating, with empty pieces and
 //! refused calls among them: state and buffers must end as if given whole.
 use crate::circuit::Circuit;
-use crate::compare::Modelled;
+use crate::compare::{lengths, Modelled};
 use crate::random::Random;
 use model::listing::Buffers;
 use model::State;
@@ -61,12 +61,32 @@ fn refused_call(state: &State, b: &mut Buffers) -> bool {
     numbers.iter().all(|x| x.is_err()) && *b == before
 }
 
+/// "Opening zeroes all named words ...; words beyond them keep their values." The copy
+/// columns are compared at the end.
+fn opening_wrong(whole: &Modelled, b: &Buffers) -> bool {
+    let [constants, _, scratch, tables] = lengths(&whole.plan);
+    let parts = [
+        (&b.constants, &whole.before.constants, constants as usize),
+        (&b.scratch, &whole.before.scratch, scratch as usize),
+        (&b.tables, &whole.before.tables, tables as usize),
+    ];
+    parts.iter().any(|(now, before, named)| {
+        now[..*named].iter().any(|word| *word != 0) || now[*named..] != before[*named..]
+    })
+}
+
 /// What differs from the whole run, if anything.
 pub fn difference(r: &mut Random, circuit: &Circuit, whole: &Modelled) -> Option<String> {
     let mut b = whole.before.clone();
     let opened =
         model::open(&whole.plan, &mut b.constants, &mut b.copies, &mut b.scratch, &mut b.tables);
     let mut state = opened.unwrap();
+    if opening_wrong(whole, &b) {
+        return Some("opening left a named word or wrote another".to_string());
+    }
+    // rows and S words write every named word of the constant buffer, zeros too
+    let named = lengths(&whole.plan)[0] as usize;
+    b.constants[..named].iter_mut().for_each(|word| *word = r.word());
     let mut rest = Cut {
         records: &circuit.rows,
         words: [&circuit.s_words, &circuit.cells],
