@@ -86,12 +86,19 @@ fn name(word: &u64) -> String {
     }
 }
 
-/// Joins texts; one that comes more than four times running is written once with its count.
+/// Joins texts; a run of more than four like ones is written once with its count, a long
+/// run of records that count up as its first and last.
 fn runs(texts: &[String], between: &str) -> String {
     let mut out: Vec<String> = vec![];
     let mut rest = texts;
     while let Some(first) = rest.first() {
         let count = rest.iter().take_while(|t| *t == first).count();
+        let rising = rest.iter().zip(0u64..).take_while(|(t, i)| **t == format!("{i} 0")).count();
+        if rising > 8 {
+            out.push(format!("0 0, 1 0, .., {}", rest[rising - 1]));
+            rest = &rest[rising..];
+            continue;
+        }
         if count > 4 {
             out.push(format!("({first}) x {count}"));
         } else {

@@ -2,11 +2,16 @@
 //!
 //!   runner random COUNT SEED      COUNT accepted random circuits
 //!   runner exhaustive             all small gate lists
+//!   runner cases                  the model against answers that 01 states
 //!   runner differences            what the Rust does with circuits that 01 turns down
+//!   runner faults COUNT SEED      COUNT circuits refused for one random fault
 //!   runner record FOLDER SEED     write the recorded answers
+mod cases;
 mod circuit;
 mod compare;
+mod differences;
 mod exhaustive;
+mod faults;
 mod figures;
 mod generate;
 mod pieces;
@@ -58,9 +63,15 @@ fn main() {
     match arguments[..] {
         ["random", count, seed] => random(number(count), number(seed)),
         ["record", folder, seed] => record::run(folder, number(seed)),
+        ["cases"] => cases::run(),
+        ["differences"] => std::process::exit(if differences::run() { 0 } else { 1 }),
+        ["faults", count, seed] => faults::run(number(count), number(seed)),
         ["exhaustive"] => exhaustive::run(),
         _ => {
-            eprintln!("runner random COUNT SEED | exhaustive | differences | record FOLDER SEED");
+            eprintln!(
+                "runner random COUNT SEED | exhaustive | cases | differences | faults COUNT SEED \
+                 | record FOLDER SEED"
+            );
             std::process::exit(2);
         }
     }

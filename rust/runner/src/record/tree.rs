@@ -234,7 +234,7 @@ fn one_word_changed(good: &Plan) -> Vec<Plan> {
 }
 
 /// A chain: each left child a leaf, the right one the rest. Depth `gates` - 1.
-fn chain(gates: usize) -> Plan {
+pub fn chain(gates: usize) -> Plan {
     let mut plan = Plan::zero();
     plan.parameters = parameters(0, gates);
     plan.gate_count = gates as u64;
@@ -254,7 +254,7 @@ fn chain(gates: usize) -> Plan {
 }
 
 /// A balanced tree of 65 gates (0,2,0), which the search turns down with 8.
-fn balanced_65() -> Plan {
+pub fn balanced_65() -> Plan {
     let mut plan = Plan::zero();
     plan.parameters = parameters(0, 65);
     plan.gate_count = 65;
