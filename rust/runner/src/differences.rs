@@ -11,6 +11,15 @@ pub enum Rust {
 }
 use Rust::{Panics, Takes};
 
+impl Rust {
+    pub fn said(self) -> &'static str {
+        match self {
+            Takes => "takes it",
+            Panics => "panics",
+        }
+    }
+}
+
 pub struct Case {
     pub number: u64,
     pub cause: &'static str,
@@ -163,11 +172,11 @@ fn answer(outcome: &Outcome) -> (Rust, String) {
         Outcome::Made(output) => {
             let lines: Vec<String> = output.text().lines().map(|line| cut(line, 30)).collect();
             let shown = if lines.len() > 8 { &lines[..1] } else { &lines[..] };
-            (Takes, format!("takes it: `{}`", shown.join("; ")))
+            (Takes, format!("{}: `{}`", Takes.said(), shown.join("; ")))
         }
         Outcome::Panicked(message) => {
             let line = message.lines().next().unwrap_or("");
-            (Panics, format!("panics: {}", cut(line, 70)))
+            (Panics, format!("{}: {}", Panics.said(), cut(line, 70)))
         }
         Outcome::Malformed => panic!("a case that is no listing"),
     }

@@ -1,7 +1,7 @@
 //! Every list of up to four gates over small degrees and constants, in modes 0 to 2.
+use crate::beside::report;
 use crate::circuit::Circuit;
 use crate::compare::{compare, Verdict};
-use crate::report;
 use std::collections::BTreeMap;
 
 const DEGREES: std::ops::RangeInclusive<u64> = 1..=4;
@@ -34,7 +34,7 @@ fn circuit(mode: u64, gates: &[[u64; 3]]) -> Circuit {
     Circuit::plain([n, 1, 16, 0, 0, mode, w, flag], &all)
 }
 
-pub fn run() {
+pub fn run() -> bool {
     let kinds = kinds();
     let start = std::time::Instant::now();
     let mut equal = BTreeMap::new();
@@ -47,13 +47,14 @@ pub fn run() {
                     Verdict::Same => *equal.entry(mode).or_insert(0u64) += 1,
                     Verdict::Refused(6, _) => *refused.entry(6).or_insert(0u64) += 1,
                     Verdict::Refused(number, _) => {
-                        report(&circuit, &format!("the model refused: {number}"))
+                        return report(&circuit, &format!("the model refused: {number}"))
                     }
-                    Verdict::Different(what) => report(&circuit, &what),
+                    Verdict::Different(what) => return report(&circuit, &what),
                 }
             }
         }
     }
     println!("exhaustive gate lists, {:.1} s", start.elapsed().as_secs_f64());
     println!("  accepted and equal by mode: {equal:?}; turned down by number: {refused:?}");
+    true
 }

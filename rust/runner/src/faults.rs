@@ -1,12 +1,12 @@
 //! Random circuits with one random fault. Where document 01 still accepts, both judges
 //! must agree; where it refuses and the original does not panic, the table of differences
 //! must have that number among those which the original takes.
+use crate::beside::report;
 use crate::circuit::{Circuit, PLACEHOLDER};
 use crate::compare::{compare, Verdict};
 use crate::differences::{cases, Rust};
 use crate::generate::{self, Size};
 use crate::random::Random;
-use crate::report;
 use std::collections::{BTreeMap, BTreeSet};
 
 /// Another value, near or at an end; small enough that the original can be given it.
@@ -91,7 +91,7 @@ fn sayable(x: &Circuit) -> bool {
     gates && flag <= 1 && (mode != 0 || (w, flag) == (0, 0)) && n <= 131072
 }
 
-pub fn run(count: u64, seed: u64) {
+pub fn run(count: u64, seed: u64) -> bool {
     let mut r = Random::new(seed);
     let taken = cases().into_iter().filter(|case| case.rust == Rust::Takes);
     let listed: BTreeSet<u64> = taken.map(|case| case.number).collect();
@@ -105,25 +105,22 @@ pub fn run(count: u64, seed: u64) {
         }
         match compare(&circuit, None) {
             Verdict::Same => accepted += 1,
-            Verdict::Different(what) => report(&circuit, &what),
+            Verdict::Different(what) => return report(&circuit, &what),
             Verdict::Refused(number, panic) => {
                 let rust = if panic.is_some() { Rust::Panics } else { Rust::Takes };
                 if rust == Rust::Takes && !listed.contains(&number) {
-                    report(&circuit, &format!("refused {number}, the original takes it"));
+                    let what = format!("refused {number}, the original takes it");
+                    return report(&circuit, &what);
                 }
                 refused += 1;
                 *met.entry((number, rust)).or_default() += 1;
             }
         }
     }
-    println!("circuits with one fault, seed {seed}: {accepted} still accepted and equal, {refused} refused");
+    println!("circuits with one fault, seed {seed}");
+    println!("  still accepted and equal: {accepted}; refused: {refused}");
     for ((number, rust), count) in met {
-        println!(
-            "  refused {number}, the original {}: {count}",
-            match rust {
-                Rust::Takes => "takes it",
-                Rust::Panics => "panics",
-            }
-        );
+        println!("  refused {number}, the original {}: {count}", rust.said());
     }
+    true
 }

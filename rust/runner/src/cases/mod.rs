@@ -23,7 +23,8 @@ impl Checks {
     }
 }
 
-pub fn run() {
+/// Whether every case holds.
+pub fn run() -> bool {
     let mut checks = Checks::default();
     plans::field(&mut checks);
     plans::labels(&mut checks);
@@ -38,7 +39,5 @@ pub fn run() {
     listings::malformed(&mut checks);
     listings::order(&mut checks);
     println!("stated cases: {} held, {} failed", checks.held, checks.failed);
-    if checks.failed > 0 {
-        std::process::exit(1);
-    }
+    checks.failed == 0
 }

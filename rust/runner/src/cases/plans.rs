@@ -1,5 +1,5 @@
 use super::Checks;
-use crate::record::tree::{balanced_65, chain};
+use crate::made_up::{balanced_65, chain};
 use model::field::{add, is_non_residue, mul, pow, sub, P};
 use model::labels::{label, representatives};
 use model::plan::Plan;

@@ -3,7 +3,7 @@
 //! the formats. The same seed gives the same bytes.
 mod field;
 mod labels;
-pub mod tree;
+mod tree;
 
 pub const VERSION: u64 = 1;
 
