@@ -107,44 +107,41 @@ fn gates() -> Vec<Case> {
     ]
 }
 
-fn rows_and_words() -> Vec<Case> {
+fn tall(edit: impl Fn(&mut Circuit)) -> Circuit {
+    edited(lone(|p| p[0] = 2), edit)
+}
+
+fn rows() -> Vec<Case> {
     let nop = |edit: &dyn Fn(&mut Circuit)| edited(lone(|_| ()), edit);
-    let column = |edit: &dyn Fn(&mut Circuit)| edited(list(0, &[[0, 2, 0], NOP]), edit);
-    let tall = |edit: &dyn Fn(&mut Circuit)| edited(lone(|p| p[0] = 2), edit);
-    let special = |edit: &dyn Fn(&mut Circuit)| edited(lone(|p| (p[0], p[3]) = (2, 1)), edit);
+    let two = list(0, &[[0, 2, 0], NOP]);
+    let four = edited(two.clone(), |x| {
+        x.parameters[0] = 4;
+        x.rows = [0, 1, 2, 0].map(|gate| vec![gate, 0]).to_vec();
+        x.cells = vec![PLACEHOLDER; 4];
+    });
+    let unused = edited(two, |x| x.rows[1] = vec![0, 0]);
     vec![
-        case(12, "gate unknown, no constant column", Takes, tall(&|x| x.rows[1] = vec![1, 0])),
-        case(
-            12,
-            "gate unknown, a constant column",
-            Panics,
-            column(&|x| {
-                x.parameters[0] = 4;
-                x.rows = vec![vec![0, 0], vec![1, 0], vec![2, 0], vec![0, 0]];
-                x.cells = vec![PLACEHOLDER; 4];
-            }),
-        ),
+        case(12, "gate unknown, no constant column", Takes, tall(|x| x.rows[1] = vec![1, 0])),
+        case(12, "gate unknown, a constant column", Panics, four),
         case(12, "more constants than the gate has", Takes, nop(&|x| x.rows[0] = vec![0, 1, 5])),
         case(13, "a row past N", Takes, nop(&|x| x.rows.push(vec![0, 0]))),
-        case(
-            13,
-            "an S word where S = 0, no constant column",
-            Panics,
-            nop(&|x| x.s_words = vec![5]),
-        ),
+        case(16, "rows missing", Takes, tall(|x| x.rows.truncate(1))),
+        case(17, "a gate in no row", Panics, unused),
+    ]
+}
+
+fn words() -> Vec<Case> {
+    let nop = |edit: &dyn Fn(&mut Circuit)| edited(lone(|_| ()), edit);
+    let special = |edit: &dyn Fn(&mut Circuit)| edited(lone(|p| (p[0], p[3]) = (2, 1)), edit);
+    let cut = edited(lone(|p| p[4] = 1), |x| x.cells[0] = 1 << 32);
+    vec![
+        case(13, "an S word where S = 0", Panics, nop(&|x| x.s_words = vec![5])),
         case(13, "an S word past the section", Panics, special(&|x| x.s_words.push(5))),
         case(13, "a cell past the section", Takes, nop(&|x| x.cells.push(PLACEHOLDER))),
         case(14, "index V", Panics, nop(&|x| x.cells[0] = 0)),
-        case(
-            14,
-            "index 2^32 and V = 1",
-            Takes,
-            edited(lone(|p| p[4] = 1), |x| x.cells[0] = 1 << 32),
-        ),
-        case(16, "rows missing", Takes, tall(&|x| x.rows.truncate(1))),
+        case(14, "index 2^32 and V = 1", Takes, cut),
         case(16, "S words missing", Panics, special(&|x| x.s_words.truncate(1))),
         case(16, "cells missing", Takes, nop(&|x| x.cells.clear())),
-        case(17, "a gate in no row", Panics, column(&|x| x.rows[1] = vec![0, 0])),
     ]
 }
 
@@ -159,7 +156,7 @@ fn tables() -> Vec<Case> {
 }
 
 pub fn cases() -> Vec<Case> {
-    let parts = [parameters(), gates(), rows_and_words(), tables()];
+    let parts = [parameters(), gates(), rows(), words(), tables()];
     let mut all: Vec<Case> = parts.into_iter().flatten().collect();
     all.sort_by_key(|case| case.number);
     all

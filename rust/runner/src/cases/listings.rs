@@ -68,24 +68,25 @@ pub fn malformed(c: &mut Checks) {
     c.same("an odd byte", model::program(&odd), refused(20));
 }
 
-pub fn order(c: &mut Checks) {
-    let with = |circuit: Circuit, change: &dyn Fn(&mut Circuit)| {
-        let mut circuit = circuit;
-        change(&mut circuit);
-        printed(&circuit)
-    };
+fn with(mut circuit: Circuit, change: &dyn Fn(&mut Circuit)) -> String {
+    change(&mut circuit);
+    printed(&circuit)
+}
+
+pub fn sizes(c: &mut Checks) {
     c.same("65,536 bytes", with(nop(1, 1, 0), &|x| x.cells = vec![0; 8173]), refused(14));
     c.same("65,544 bytes", with(nop(1, 1, 0), &|x| x.cells = vec![0; 8174]), refused(20));
-    c.same(
-        "10 after 8",
-        with(nop(65536, 1, 0), &|x| {
-            x.rows.clear();
-            x.cells.clear();
-        }),
-        refused(10),
-    );
+    let tall = |x: &mut Circuit| {
+        x.rows.clear();
+        x.cells.clear();
+    };
+    c.same("N = 65,536 does not fit the program", with(nop(65536, 1, 0), &tall), refused(10));
+    c.same("N = 131,072", with(nop(131072, 1, 0), &tall), refused(1));
     c.same("V = 4,097", printed(&nop(1, 1, 4097)), refused(10));
     c.same("V = 4,096", printed(&nop(1, 1, 4096)).starts_with("plan"), true);
+}
+
+pub fn order(c: &mut Checks) {
     let faults: [(u64, &dyn Fn(&mut Circuit)); 7] = [
         (1, &|x| x.parameters[0] = 3),
         (4, &|x| x.gates[0] = [9, 0, 0]),
@@ -104,14 +105,11 @@ pub fn order(c: &mut Checks) {
             c.same("the earlier section's fault", with(nop(1, 1, 1), &both), refused(first.0));
         }
     }
-    c.same(
-        "16 waits for tables",
-        with(nop(1, 1, 0), &|x| {
-            x.cells.clear();
-            x.tables = vec![vec![0, 0]];
-        }),
-        refused(15),
-    );
+    let incomplete = |x: &mut Circuit| {
+        x.cells.clear();
+        x.tables = vec![vec![0, 0]];
+    };
+    c.same("16 waits for tables", with(nop(1, 1, 0), &incomplete), refused(15));
     c.same("cells missing", with(nop(1, 1, 0), &|x| x.cells.clear()), refused(16));
     c.same("16 before 17", with(nop(1, 1, 0), &|x| x.rows.clear()), refused(16));
     let two = Circuit::plain([1, 1, 0, 0, 0, 0, 0, 0], &[[0, 1, 0], [2, 0, 0]]);

@@ -37,6 +37,7 @@ pub fn run() -> bool {
     calls::finishing(&mut checks);
     listings::worked(&mut checks);
     listings::malformed(&mut checks);
+    listings::sizes(&mut checks);
     listings::order(&mut checks);
     println!("stated cases: {} held, {} failed", checks.held, checks.failed);
     checks.failed == 0
