@@ -18,11 +18,11 @@ pub enum Verdict {
 
 /// Buffers whose words are not fresh, longer than needed by a few words: an opening
 /// must not depend on them and must keep those beyond.
-pub fn lent(plan_words: [u64; 4], beyond: u64) -> Buffers {
+fn lent(lengths: [u64; 4], beyond: u64) -> Buffers {
     let junk = |length: u64, salt: u64| {
         (0..length + beyond).map(|i| u64::MAX - salt - i * 7919).collect::<Vec<u64>>()
     };
-    let [constants, copies, scratch, tables] = plan_words;
+    let [constants, copies, scratch, tables] = lengths;
     Buffers {
         constants: junk(constants, 1),
         copies: junk(copies, 2),

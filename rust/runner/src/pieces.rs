@@ -6,10 +6,21 @@ use crate::random::Random;
 use model::listing::Buffers;
 use model::State;
 
-struct Cut<'a> {
-    records: &'a [Vec<u64>],
-    words: [&'a [u64]; 2],
+/// What is left to give of each section.
+struct Rest<'a> {
+    rows: &'a [Vec<u64>],
+    s_words: &'a [u64],
+    cells: &'a [u64],
     tables: &'a [Vec<u64>],
+}
+
+impl Rest<'_> {
+    fn is_empty(&self) -> bool {
+        self.rows.is_empty()
+            && self.s_words.is_empty()
+            && self.cells.is_empty()
+            && self.tables.is_empty()
+    }
 }
 
 /// Cuts off the front: nothing, all, or some of it.
@@ -25,24 +36,19 @@ fn cut<'a, T>(r: &mut Random, rest: &mut &'a [T]) -> &'a [T] {
     piece
 }
 
-fn one_call(
-    r: &mut Random,
-    cut_off: &mut Cut,
-    state: &State,
-    b: &mut Buffers,
-) -> Result<State, u64> {
+fn one_call(r: &mut Random, rest: &mut Rest, state: &State, b: &mut Buffers) -> Result<State, u64> {
     match r.within(0, 3) {
         0 => {
-            let piece = cut(r, &mut cut_off.records).concat();
+            let piece = cut(r, &mut rest.rows).concat();
             model::rows(state, &piece, &mut b.constants)
         }
-        1 => model::s_words(state, cut(r, &mut cut_off.words[0]), &mut b.constants),
+        1 => model::s_words(state, cut(r, &mut rest.s_words), &mut b.constants),
         2 => {
-            let piece = cut(r, &mut cut_off.words[1]);
+            let piece = cut(r, &mut rest.cells);
             model::cells(state, piece, &mut b.copies, &mut b.scratch)
         }
         _ => {
-            let piece = cut(r, &mut cut_off.tables).concat();
+            let piece = cut(r, &mut rest.tables).concat();
             model::tables(state, &piece, &mut b.tables)
         }
     }
@@ -87,17 +93,15 @@ pub fn difference(r: &mut Random, circuit: &Circuit, whole: &Modelled) -> Option
     // rows and S words write every named word of the constant buffer, zeros too
     let named = lengths(&whole.plan)[0] as usize;
     b.constants[..named].iter_mut().for_each(|word| *word = r.word());
-    let mut rest = Cut {
-        records: &circuit.rows,
-        words: [&circuit.s_words, &circuit.cells],
+    let mut rest = Rest {
+        rows: &circuit.rows,
+        s_words: &circuit.s_words,
+        cells: &circuit.cells,
         tables: &circuit.tables,
     };
     let refused_at = r.within(0, 8);
     let mut calls = 0;
-    while !rest.records.is_empty()
-        || rest.words.iter().any(|words| !words.is_empty())
-        || !rest.tables.is_empty()
-    {
+    while !rest.is_empty() {
         if calls == refused_at && !refused_call(&state, &mut b) {
             return Some("a refused call was taken or wrote".to_string());
         }
