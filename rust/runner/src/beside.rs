@@ -35,6 +35,22 @@ fn random(count: u64, seed: u64) -> bool {
     true
 }
 
+/// The largest circuits of all, one in each mode.
+fn corners() -> bool {
+    let mut r = Random::new(0);
+    let start = std::time::Instant::now();
+    for mode in 0..5 {
+        let circuit = generate::corner(&mut r, mode);
+        match compare(&circuit, Some(&mut r)) {
+            Verdict::Same => {}
+            Verdict::Refused(number, _) => return report(&circuit, &format!("refused: {number}")),
+            Verdict::Different(what) => return report(&circuit, &what),
+        }
+    }
+    println!("largest circuits, one in each mode: equal, {:.1} s", start.elapsed().as_secs_f64());
+    true
+}
+
 fn number(text: &str) -> u64 {
     text.parse().unwrap_or_else(|_| panic!("not a number: {text}"))
 }
@@ -44,6 +60,7 @@ pub fn command(arguments: &[&str]) -> Option<bool> {
     oracle::silence_panics();
     match arguments {
         ["random", count, seed] => Some(random(number(count), number(seed))),
+        ["corners"] => Some(corners()),
         ["exhaustive"] => Some(exhaustive::run()),
         ["differences"] => Some(differences::run()),
         ["faults", count, seed] => Some(faults::run(number(count), number(seed))),

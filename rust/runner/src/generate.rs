@@ -172,13 +172,30 @@ pub fn circuit(r: &mut Random, size: Size) -> Circuit {
         2 | 4 => 1,
         _ => r.within(0, 1),
     };
+    filled(r, [n, c, a, s, v, mode, w, flag], gates)
+}
+
+/// Rows, S words, cells and tables for these parameters and gates.
+fn filled(r: &mut Random, parameters: [u64; 8], gates: Vec<[u64; 3]>) -> Circuit {
+    let [n, c, _, s, v, mode, w, _] = parameters;
     let (holes, noise) = (r.pick(&[0, 5, 50, 90, 100]), r.once_in(2));
     Circuit {
-        parameters: [n, c, a, s, v, mode, w, flag],
+        parameters,
         rows: rows(r, n, &gates, mode),
         gates,
         s_words: (0..s * n).map(|_| r.element()).collect(),
         cells: (0..c * n).map(|_| cell(r, v, holes, noise)).collect(),
         tables: if mode == 0 { vec![] } else { tables(r, n, w) },
     }
+}
+
+/// Every parameter at its upper end, and as many gates as there may be.
+pub fn corner(r: &mut Random, mode: u64) -> Circuit {
+    let mut gates: Vec<[u64; 3]> = (0..128).map(|_| evaluated(r, 64, 16)).collect();
+    gates[1..3].copy_from_slice(&[[1, 0, 0], [2, 0, 0]]);
+    if mode == 1 || mode == 2 {
+        gates[0] = [3, 0, 0];
+    }
+    let (w, flag) = if mode == 0 { (0, 0) } else { (16, 1) };
+    filled(r, [65536, 64, 16, 16, 1048576, mode, w, flag], gates)
 }

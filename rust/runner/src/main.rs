@@ -2,6 +2,7 @@
 //!
 //!   runner cases                  the model against answers that 01 states
 //!   runner random COUNT SEED      COUNT accepted random circuits
+//!   runner corners                the largest circuit of each mode
 //!   runner exhaustive             all small gate lists
 //!   runner differences            what the Rust does with circuits that 01 turns down
 //!   runner faults COUNT SEED      COUNT circuits refused for one random fault
