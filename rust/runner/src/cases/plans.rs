@@ -49,7 +49,7 @@ pub fn planning(c: &mut Checks) {
     let p6 = [0, 2, 1, 0, 1, 0, 1, 0, 0];
     c.same("P6", paths(0, 1, &p6), Ok((vec![(1, 1), (2, 2), (0, 2)], [3, 2, 2])));
     c.same("P10", paths(0, 0, &[1, 0, 0]), Ok((vec![(0, 0)], [0, 0, 1])));
-    c.same("64 gates at target 8", paths(0, 0, &[0, 2, 0].repeat(64)).unwrap().1, [8, 6, 8]);
+    c.same("64 gates at target 8", paths(0, 0, &[0, 2, 0].repeat(64)).map(|x| x.1), Ok([8, 6, 8]));
     c.same("65 gates", paths(0, 0, &[0, 2, 0].repeat(65)), Err(8));
     let both = Ok((vec![(0, 1), (1, 1)], [2, 1, 1]));
     c.same("the lookup gate sorts by its degree word", paths(1, 0, &[3, 0, 0, 0, 1, 0]), both);
