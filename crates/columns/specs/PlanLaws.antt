@@ -3,14 +3,15 @@
 -- Main definition: `Sound`. Main statement: `sound`.
 use mathlib.Core.Path.{_≡_, refl, sym, ap, _∙_, subst}
 use mathlib.Core.Bool.{Bool, true, false}
+use mathlib.Core.Logic.{_≢_}
 use mathlib.Core.List.{List, []}
 use mathlib.Core.Option.{Option, none, some}
 use Prim.Native.Nat.{ℕ, zero, suc, _+_, _*_, _≤_, _<_}
 use native.Mathlib.Decide.{ℕ-discrete}
 use native.Mathlib.Omega.{arith}
 use lib.Dec.{eqb}
-use lib.Seq.{length-take-le}
-use borrow.Author.Tests.{eq-eqb, ne-eqb, eqb-true}
+use lib.Seq.{length-take-le, getD-take}
+use borrow.Author.Tests.{eq-eqb, ne-eqb, eqb-true, lt-ltb}
 use lib.ListN.{length, getD}
 use Rattle.base.specs.Firsts.{first-zero}
 use Rattle.labels.specs.Ranges.{Ranges, ranges-fit, rangesFit}
@@ -21,14 +22,14 @@ use Rattle.selector.specs.Search.{treeK}
 use Rattle.selector.specs.Nodes.{treeAt}
 use Rattle.selector.specs.MadeUp.{mostLevels, wanted}
 use Rattle.selector.specs.MadeUpLaws.{Sturdy}
-use Rattle.selector.specs.Paths.{pathTo, pathOf, orEmpty}
+use Rattle.selector.specs.Paths.{pathTo, pathOf, orEmpty, bitsOf}
 use Rattle.selector.specs.PathLaws.{path-some, path-fits, path-deep}
 use Rattle.selector.specs.Refusals.{Sound as Records, recordNumber, recordsNumber, gatesNumber}
 use Rattle.selector.specs.RecordLaws.{gates-sound}
 use Rattle.tree.specs.Lookup.{modeOf, widthOf}
 use Rattle.tree.specs.Parameters.{rangeNumber, flagNumber, parametersNumber}
 use Rattle.tree.specs.ParametersLaws.{InRange, in-range}
-use Rattle.tree.specs.Plan.{gatesGiven, parametersOf, pathIn, planExtra, planFault, planPath}
+use Rattle.tree.specs.Plan.{gatesGiven, parametersOf, pathAnswer, pathIn, planExtra, planFault, planPath}
 use Rattle.tree.specs.PlanLaws.{Faultless, fault-none}
 use Rattle.tree.specs.declared.plan.Plan.{Plan}
 use Rattle.pieces.specs.RecordLaws.{Each}
@@ -155,3 +156,20 @@ module _ (q : Plan) (e : planFault q ≡ 0) (long : 384 ≤ length (q .gates)) w
         short = λ g. rw (path-is g) (path-cases (λ p. length p ≤ 31) g (nodes .tree) (λ _. omega arith) (λ p h. omega (arith, deep, path-deep (nodes .tree) g p h)));
         fits = λ g h. rw (path-is g) (path-cases (λ p. length p + constantsOf (planExtra q) words g ≤ q .constants) g (nodes .tree) (room g h) (λ p k. omega (arith, nodes .most, path-fits (planExtra q) words g (nodes .tree) p k)));
       }
+
+-- ---- what the code reads off a plan
+-- a gate word, of the listed ones
+pub given-word : (q : Plan) (i : ℕ) → i < q .«gate_count» * gateWords → getD (gatesGiven q) i 0 ≡ getD (q .gates) i 0
+given-word q i h = rw (getD-take (q .«gate_count» * gateWords) (q .gates) i 0 h)
+
+pub own-lookup : (x : ℕ) (gs : List ℕ) (g : ℕ) → kindOf gs g ≡ 3 → constantsOf x gs g ≡ x
+unfolding constantsOf
+own-lookup x gs g e = rw (eq-eqb (kindOf gs g) 3 e)
+
+pub own-plain : (x : ℕ) (gs : List ℕ) (g : ℕ) → kindOf gs g ≢ 3 → constantsOf x gs g ≡ constantsWord gs g
+unfolding constantsOf
+own-plain x gs g d = rw (ne-eqb (kindOf gs g) 3 d)
+
+pub path-good : (q : Plan) (g : ℕ) → planFault q ≡ 0 → g < q .«gate_count» → pathAnswer q g ≡ record { number = 0; bits = bitsOf (planPath q g); length = length (planPath q g) }
+unfolding pathAnswer
+path-good q g e h = rw (eq-eqb (planFault q) 0 e, lt-ltb g (q .«gate_count») h)

@@ -1,6 +1,7 @@
 // 01, 'Columns by pieces': constant, copy and table columns, given in pieces.
 mod cells;
 mod finishing;
+mod gates;
 mod opening;
 mod records;
 mod rows;
