@@ -4,3 +4,4 @@ pub mod Placed
 pub mod Stacked
 pub mod TreeLaws
 pub mod PlanLaws
+pub mod Intake

@@ -2,9 +2,10 @@
 mod cells;
 mod finishing;
 mod gates;
+pub mod intake;
 mod opening;
 mod records;
 mod rows;
 mod s_words;
 mod tables;
-mod variable;
+pub mod variable;
