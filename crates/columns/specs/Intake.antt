@@ -2,9 +2,10 @@
 --
 -- Main definitions: `settingOf`, `stateOf`, `withState`; `openAnswer`, `openLeft`, `rowsAnswer`, `rowsLeft`, `sWordsAnswer`, `sWordsLeft`, `cellsAnswer`, `cellsLeft`,
 -- `tablesAnswer`, `tablesLeft`, `finishAnswer`, `finishLeft`.
+use mathlib.Core.Path.{_≡_}
 use mathlib.Core.Bool.{Bool, true, false}
 use mathlib.Core.List.{List}
-use Prim.Native.Nat.{ℕ, _*_}
+use Prim.Native.Nat.{ℕ, _*_, _≤_}
 use lib.Dec.{ltb, eqb}
 use lib.ListN.{replicate}
 use Rattle.base.specs.Pick.{pick}
@@ -15,7 +16,7 @@ use Rattle.selector.specs.MadeUp.{wanted}
 use Rattle.tree.specs.Lookup.{modeOf, widthOf}
 use Rattle.tree.specs.Plan.{zeroPlan, gatesGiven, planExtra, planFault, planPath}
 use Rattle.tree.specs.declared.plan.Plan.{Plan}
-use Rattle.pieces.specs.Setting.{Setting, State, Store, Cols, cols}
+use Rattle.pieces.specs.Setting.{Setting, State, Store, Cols, cols, constantRoom, copyRoom, scratchRoom, tableRoom}
 use Rattle.pieces.specs.Opening.{openNumber, openStore, openState, zeroState, mostGates}
 use Rattle.pieces.specs.Rows.{rowsNumber, rowsWritten, rowsState}
 use Rattle.pieces.specs.SWords.{sWordsNumber, sWordsWritten, sWordsState}
@@ -23,6 +24,7 @@ use Rattle.pieces.specs.Cells.{cellsNumber, cellsWritten, cellsState}
 use Rattle.pieces.specs.Tables.{tablesNumber, tablesWritten, tablesState}
 use Rattle.pieces.specs.Finishing.{finishNumber, finishedCopies, finishedState}
 use Rattle.columns.specs.declared.intake.Intake.{Intake}
+use Rattle.columns.specs.declared.intake.Rooms.{Rooms}
 use Rattle.columns.specs.declared.intake.Taken.{Taken}
 
 -- the labels of all copy cells, column by column
@@ -94,6 +96,14 @@ unlessRefused n new old = pick (eqb n 0) new old
 -- the four lent buffers
 abbrev pub storeOf : List ℕ → List ℕ → List ℕ → List ℕ → Store
 storeOf constants copies scratch tables = record { constants = constants; cells = cols copies scratch; tables = tables }
+
+-- the named words of each buffer
+pub record RoomsOf (x : Setting) (r : Rooms) : Type 0 where
+  pub constants-are : r .constants ≡ constantRoom x
+  pub copies-are : r .copies ≡ copyRoom x
+  pub scratch-is : r .scratch ≡ scratchRoom x
+  pub tables-are : r .tables ≡ tableRoom x
+  pub small : r .constants ≤ 4194304
 
 -- "Refused .. opening hands back a .. state of zeros, which counts as never opened."
 unfoldable pub openAnswer : Plan → Store → Taken

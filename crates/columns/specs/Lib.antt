@@ -5,3 +5,4 @@ pub mod Stacked
 pub mod TreeLaws
 pub mod PlanLaws
 pub mod Intake
+pub mod IntakeLaws

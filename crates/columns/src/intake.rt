@@ -3,10 +3,9 @@
 ghost use mathlib.Core.Path.{_≡_};
 ghost use Prim.Native.Nat.{ℕ, _*_, _+_};
 ghost use lib.ListN.{length};
-ghost use Rattle.tree.specs.Plan.{zeroPlan};
+ghost use Rattle.tree.specs.Plan.{planFault};
 ghost use Rattle.pieces.specs.Setting.{cols, stands};
-ghost use Rattle.pieces.specs.Opening.{zeroState, openState};
-ghost use Rattle.columns.specs.Intake.{settingOf, stateOf, withState, storeOf, refusedWith, openAnswer, openLeft, rowsAnswer, rowsLeft, sWordsAnswer, sWordsLeft, cellsAnswer, cellsLeft, tablesAnswer, tablesLeft, finishAnswer, finishLeft};
+ghost use Rattle.columns.specs.Intake.{settingOf, stateOf, storeOf, refusedWith, RoomsOf, openAnswer, openLeft, rowsAnswer, rowsLeft, sWordsAnswer, sWordsLeft, cellsAnswer, cellsLeft, tablesAnswer, tablesLeft};
 use crate::cells::cells_fault;
 use crate::cells::place_cells;
 use crate::finishing::all_used;
@@ -58,6 +57,31 @@ fn refused(number: u64, state: Intake) -> Taken
     }
 }
 
+// The named words of each buffer.
+struct Rooms {
+    constants: usize,
+    copies: usize,
+    scratch: usize,
+    tables: usize,
+}
+
+fn rooms_of(plan: Plan) -> Rooms
+    requires { ⌜ planFault plan ≡ 0 ⌝ }
+    ensures { λ r. ⌜ RoomsOf (settingOf plan) r ⌝ }
+{
+    let lookup = plan.lookup;
+    let mut tables: u64 = 0;
+    if 0 < lookup.mode() {
+        tables = (lookup.lookup_width() + 1) * plan.trace;
+    }
+    Rooms {
+        constants: ((plan.constants + plan.specialised) * plan.trace) as usize,
+        copies: (plan.copy * plan.trace) as usize,
+        scratch: (2 * plan.variables) as usize,
+        tables: tables as usize,
+    }
+}
+
 impl Intake {
     // A state before its first piece.
     fn start(plan: Plan, phase: u64) -> Self
@@ -106,5 +130,190 @@ impl Intake {
             return false;
         }
         self.table_rows <= 0
+    }
+
+    // Opens the columns of a plan: named words zeroed, labels written, words beyond kept. A refusal
+    // hands back a state of zeros.
+    pub fn open(
+        plan: Plan,
+        constants: &mut [u64],
+        copies: &mut [u64],
+        scratch: &mut [u64],
+        tables: &mut [u64],
+    ) -> Taken
+        ensures { λ r. ⌜ r ≡ openAnswer plan (storeOf (now (constants .entry)) (now (copies .entry)) (now (scratch .entry)) (now (tables .entry))) ⌝ }
+        ensures { λ _. ⌜ storeOf (now (constants .exit)) (now (copies .exit)) (now (scratch .exit)) (now (tables .exit)) ≡ openLeft plan (storeOf (now (constants .entry)) (now (copies .entry)) (now (scratch .entry)) (now (tables .entry))) ⌝ }
+    {
+        let zero = Intake::start(Plan::zero(), NEVER);
+        if plan.fault() != 0 {
+            return refused(19, zero);
+        }
+        let rooms = rooms_of(plan);
+        if constants.len() < rooms.constants {
+            return refused(10, zero);
+        }
+        if copies.len() < rooms.copies {
+            return refused(10, zero);
+        }
+        if scratch.len() < rooms.scratch {
+            return refused(10, zero);
+        }
+        if tables.len() < rooms.tables {
+            return refused(10, zero);
+        }
+        let number = labels::fill_labels(plan.trace, plan.copy, copies);
+        if number != 0 {
+            return refused(number, zero);
+        }
+        clear(rooms.constants, constants);
+        clear(rooms.scratch, scratch);
+        clear(rooms.tables, tables);
+        Taken {
+            number: 0,
+            state: Intake::start(plan, OPEN),
+        }
+    }
+
+    // Row records: gate, number of constants, constants.
+    pub fn rows(self, piece: &[u64], constants: &mut [u64]) -> Taken
+        ensures { λ r. ⌜ r ≡ rowsAnswer self (now (piece .entry)) (now (constants .entry)) ⌝ }
+        ensures { λ _. ⌜ now (constants .exit) ≡ rowsLeft self (now (piece .entry)) (now (constants .entry)) ⌝ }
+    {
+        if self.stands() {
+            let plan = self.plan;
+            if constants.len() < rooms_of(plan).constants {
+                return refused(10, self);
+            }
+            let gates = gate_rows(plan);
+            let own = gates.own;
+            let fault = rows_fault(gates.many, &own, plan.trace, self.rows, piece);
+            if fault != 0 {
+                return refused(fault, self);
+            }
+            let mut used = self.used;
+            let rows = write_rows(
+                plan.constants,
+                plan.trace,
+                self.rows,
+                gates,
+                piece,
+                &mut used,
+                constants,
+            );
+            let state = Intake {
+                plan: plan,
+                rows: rows,
+                s_words: self.s_words,
+                cells: self.cells,
+                tables: self.tables,
+                table_rows: self.table_rows,
+                used: used,
+                phase: self.phase,
+            };
+            return Taken {
+                number: 0,
+                state: state,
+            };
+        }
+        refused(19, self)
+    }
+
+    // Words of the specialised constant columns, column by column.
+    pub fn s_words(mut self, piece: &[u64], constants: &mut [u64]) -> Taken
+        ensures { λ r. ⌜ r ≡ sWordsAnswer self (now (piece .entry)) (now (constants .entry)) ⌝ }
+        ensures { λ _. ⌜ now (constants .exit) ≡ sWordsLeft self (now (piece .entry)) (now (constants .entry)) ⌝ }
+    {
+        if self.stands() {
+            let plan = self.plan;
+            if constants.len() < rooms_of(plan).constants {
+                return refused(10, self);
+            }
+            let total = plan.specialised * plan.trace;
+            let fault = s_words_fault(total, self.s_words, piece);
+            if fault != 0 {
+                return refused(fault, self);
+            }
+            let at = (plan.constants * plan.trace + self.s_words) as usize;
+            write_words(1, at, piece, constants);
+            self.s_words = self.s_words + piece.len() as u64;
+            return Taken {
+                number: 0,
+                state: self,
+            };
+        }
+        refused(19, self)
+    }
+
+    // Cell words of the copy columns, column by column.
+    pub fn cells(mut self, piece: &[u64], copies: &mut [u64], scratch: &mut [u64]) -> Taken
+        ensures { λ r. ⌜ r ≡ cellsAnswer self (now (piece .entry)) (cols (now (copies .entry)) (now (scratch .entry))) ⌝ }
+        ensures { λ _. ⌜ cols (now (copies .exit)) (now (scratch .exit)) ≡ cellsLeft self (now (piece .entry)) (cols (now (copies .entry)) (now (scratch .entry))) ⌝ }
+    {
+        if self.stands() {
+            let plan = self.plan;
+            let rooms = rooms_of(plan);
+            if copies.len() < rooms.copies {
+                return refused(10, self);
+            }
+            if scratch.len() < rooms.scratch {
+                return refused(10, self);
+            }
+            let total = plan.copy * plan.trace;
+            let fault = cells_fault(total, plan.variables, self.cells, piece);
+            if fault != 0 {
+                return refused(fault, self);
+            }
+            place_cells(self.cells, piece, copies, scratch);
+            self.cells = self.cells + piece.len() as u64;
+            return Taken {
+                number: 0,
+                state: self,
+            };
+        }
+        refused(19, self)
+    }
+
+    // Table records: width, rows, contents row by row.
+    pub fn tables(mut self, piece: &[u64], tables: &mut [u64]) -> Taken
+        ensures { λ r. ⌜ r ≡ tablesAnswer self (now (piece .entry)) (now (tables .entry)) ⌝ }
+        ensures { λ _. ⌜ now (tables .exit) ≡ tablesLeft self (now (piece .entry)) (now (tables .entry)) ⌝ }
+    {
+        if self.stands() {
+            let plan = self.plan;
+            if tables.len() < rooms_of(plan).tables {
+                return refused(10, self);
+            }
+            let lookup = plan.lookup;
+            let width = lookup.lookup_width();
+            let looked = 0 < lookup.mode();
+            let fault = tables_fault(
+                looked,
+                width,
+                plan.trace,
+                self.tables,
+                self.table_rows,
+                piece,
+            );
+            if fault != 0 {
+                return refused(fault, self);
+            }
+            if looked {
+                let stack = write_tables(
+                    width,
+                    plan.trace,
+                    self.tables,
+                    self.table_rows,
+                    piece,
+                    tables,
+                );
+                self.tables = stack.count;
+                self.table_rows = stack.high;
+            }
+            return Taken {
+                number: 0,
+                state: self,
+            };
+        }
+        refused(19, self)
     }
 }

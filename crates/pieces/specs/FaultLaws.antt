@@ -1,12 +1,12 @@
 -- Laws of the numbers of row, S word and table records: one equation for each cause, and what no fault says.
 --
--- Main statements: `row-fine`, `rows-room`, `word-fine`, `words-room`, `table-fine`, `tables-room` and the equations.
-use mathlib.Core.Path.{_≡_, refl, ap, _∙_}
+-- Main statements: `row-fine`, `rows-room`, `word-fine`, `words-room`, `table-fine`, `tables-room`, `rows-own-same`, `no-tables` and the equations.
+use mathlib.Core.Path.{_≡_, refl, sym, ap, _∙_}
 use mathlib.Core.Logic.{_≢_}
 use mathlib.Core.Bool.{Bool, true, false}
 use mathlib.Core.List.{List, [], _∷_}
 use Prim.Native.Nat.{ℕ, suc, _+_, _-_, _*_, _≤_, _<_}
-use native.Mathlib.Decide.{decLe}
+use native.Mathlib.Decide.{decLe, decLt}
 use native.Mathlib.Omega.{arith}
 use lib.ListN.{length, getD}
 use lib.Dec.{ltb, leb, eqb}
@@ -18,7 +18,7 @@ use Rattle.pieces.specs.Records.{Read, whole, cut, rowSize, tableSize, f
 use Rattle.pieces.specs.Rows.{rowFault, rowsFault}
 use Rattle.pieces.specs.SWords.{sWordFault, sWordsFault}
 use Rattle.pieces.specs.Tables.{Stack, rowsIn, stackNext, tableFault, tablesFault, sumRows}
-use Rattle.pieces.specs.RecordLaws.{fault-head, front-cut, front-whole}
+use Rattle.pieces.specs.RecordLaws.{fault-head, first-same, front-cut, front-whole}
 
 -- ---- rows
 pub record RowFine (many : ℕ) (own : ℕ → ℕ) (N r g n : ℕ) (cs : List ℕ) : Type 0 where
@@ -85,6 +85,22 @@ rows-room many own N r (cut ∷ ts) h e =
 rows-room many own N r (whole g n cs ∷ ts) h e =
     let f = fault-head (rowFault many own N) (λ r _. suc r) r (whole g n cs) ts e in
     omega (arith, rows-room many own N (suc r) ts (row-fine many own N r g n cs (f .0) .room) (f .1))
+
+row-by : (many : ℕ) (own own' : ℕ → ℕ) (N r g n : ℕ) (cs : List ℕ) → own g ≡ own' g → rowFault many own N r (whole g n cs) ≡ rowFault many own' N r (whole g n cs)
+unfolding rowFault
+row-by many own own' N r g n cs e = rw e
+
+-- only the constants of listed gates count
+row-own-same : (many : ℕ) (own own' : ℕ → ℕ) (N r : ℕ) (t : Read) → ((g : ℕ) → g < many → own g ≡ own' g) → rowFault many own N r t ≡ rowFault many own' N r t
+row-own-same many own own' N r cut e = row-cut many own N r ∙ sym (row-cut many own' N r)
+row-own-same many own own' N r (whole g n cs) e = go (decLt g many)
+  where
+    go : Dec (g < many) → rowFault many own N r (whole g n cs) ≡ rowFault many own' N r (whole g n cs)
+    go (no h) = row-unknown many own N r g n cs (omega arith) ∙ sym (row-unknown many own' N r g n cs (omega arith))
+    go (yes h) = row-by many own own' N r g n cs (e g h)
+
+pub rows-own-same : (many : ℕ) (own own' : ℕ → ℕ) (N r : ℕ) (ts : List Read) → ((g : ℕ) → g < many → own g ≡ own' g) → rowsFault many own N r ts ≡ rowsFault many own' N r ts
+rows-own-same many own own' N r ts e = first-same (rowFault many own N) (rowFault many own' N) (λ r _. suc r) (λ r t. row-own-same many own own' N r t e) r ts
 
 -- ---- S words
 module _ (total k w : ℕ) where
@@ -187,3 +203,9 @@ tables-room lookup W N s (whole w n cs ∷ ts) h k e =
     let g = table-fine lookup W N s w n cs (f .0) in
     let r = tables-room lookup W N (stackNext s (whole w n cs)) ts (g .room) (g .few) (f .1) in
     (r .0, omega (arith, r .1))
+
+-- without a lookup mode a piece of tables without a fault is empty
+pub no-tables : (W N : ℕ) (s : Stack) (ts : List Read) → tablesFault false W N s ts ≡ 0 → ts ≡ []
+no-tables W N s [] e = refl
+no-tables W N s (t ∷ ts) e =
+    let f = fault-head (tableFault false W N) stackNext s t ts e in absurd (omega (arith, f .0, table-mode false W N s t refl))

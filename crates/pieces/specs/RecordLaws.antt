@@ -56,6 +56,12 @@ module _ {S X : Type 0} (fault : S → X → ℕ) (next : S → X → S) where
   fault-each P good s [] e = tt
   fault-each P good s (x ∷ xs) e = let h = fault-head s x xs e in (good s x (h .0), fault-each P good (next s x) xs (h .1))
 
+-- two ways to number the faults that agree on each give the same first one
+pub first-same : {S X : Type 0} (f g : S → X → ℕ) (next : S → X → S) → ((s : S) (x : X) → f s x ≡ g s x) → (s : S) (xs : List X) → firstFault f next s xs ≡ firstFault g next s xs
+unfolding firstFault
+first-same f g next e s [] = refl
+first-same f g next e s (x ∷ xs) = rw (e s x, first-same f g next e (next s x) xs)
+
 -- ---- records of pieces put end to end
 abbrev pub Whole : Read → Type 0
 Whole cut = ⊥

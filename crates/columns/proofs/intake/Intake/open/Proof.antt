@@ -1,0 +1,216 @@
+-- `columns::intake::Intake::open` meets its contract: 19, 10 for each of the four buffers, 9, then labels written and all other named words zeroed.
+-- Assumes nothing.
+use borrow.Author.Needs.{needs}
+use mathlib.Core.Path.{_≡_, refl, sym, ap, _∙_}
+use mathlib.Core.Logic.{_≢_}
+use mathlib.Core.Bool.{true}
+use mathlib.Core.List.{List}
+use native.Mathlib.Omega.{arith}
+use Prim.Native.Nat.{ℕ, _*_, _<_, _≤_}
+use lib.ListN.{length}
+use lib.Dec.{leb}
+use borrow.Author.Tests.{le-leb}
+use Rattle.labels.specs.Ranges.{rangesFit}
+use Rattle.labels.specs.Labels.{searchNumber, fillNumber, labelsWritten}
+use Rattle.labels.specs.LabelLaws.{written-refused, written-is}
+use Rattle.tree.specs.Plan.{planFault, zeroPlan}
+use Rattle.tree.specs.declared.plan.Plan.{Plan}
+use Rattle.pieces.specs.Setting.{constantRoom, copyRoom, scratchRoom, tableRoom}
+use Rattle.pieces.specs.Opening.{roomToOpen, openNumber, openStore}
+use Rattle.pieces.specs.Writing.{cleared}
+use Rattle.columns.specs.Intake.{settingOf, storeOf, startOf, refusedWith}
+use Rattle.columns.specs.IntakeLaws.{open-19, open-10, open-own, short-constants, short-copies, short-scratch, short-tables, long-enough, open-refused, open-taken}
+use Rattle.columns.specs.PlanLaws.{Sound, sound}
+use Rattle.columns.specs.declared.intake.Intake.{Intake}
+use borrow.Author.Needs.{needs}
+use Rattle.columns.proofs.intake.Intake.open.Statement.{statement}
+use Rattle.columns.proofs.intake.Intake.open.Tie as tie
+
+zero-requires : tie.Need-zero-requires
+zero-requires c κs = search needs
+
+start-requires : tie.Need-start-requires
+start-requires c κs = search needs
+
+fault-requires : tie.Need-fault-requires
+fault-requires c κs = search needs
+
+refused-requires : tie.Need-refused-requires
+refused-requires c κs = search needs
+
+-- the plan's gate words
+long : (s : tie.Start) → length (s .args .plan .gates) ≡ 384
+long s = search needs
+
+-- the state of zeros that a refusal hands back
+zeros : (c : tie.After-start) → c .start .result ≡ startOf zeroPlan 0
+zeros c = c .start .ensures ∙ ap (λ (q : Plan). startOf q 0) (c .before .zero .ensures)
+
+fine : (c : tie.Else1) → planFault (c .before .before .before .before .before .before .before .before .args .plan) ≡ 0
+fine c = sym (c .before .fault .ensures) ∙ c .if1 .left
+
+returns : tie.Need-returns
+returns c =
+    let a = c .before .before .before .before .before .before .before .before .before .args in
+    let q = a .plan in
+    let b = storeOf (a .constants .now) (a .copies .now) (a .scratch .now) (a .tables .now) in
+    let k = open-refused q b 19 (open-19 q b (λ z. c .before .if1 .taken (c .before .before .fault .ensures ∙ z))) (λ z. omega arith) in
+    (c .refused .ensures ∙ ap (refusedWith 19) (zeros (c .before .before .before)) ∙ k .0, k .1)
+
+rooms-of-requires : tie.Need-rooms-of-requires
+rooms-of-requires c κs = search needs
+
+refused-requires-2 : tie.Need-refused-requires-2
+refused-requires-2 c κs = search needs
+
+returns-2 : tie.Need-returns-2
+returns-2 c =
+    let a = c .before .before .before .before .before .before .before .before .before .before .before .before .args in
+    let q = a .plan in
+    let b = storeOf (a .constants .now) (a .copies .now) (a .scratch .now) (a .tables .now) in
+    let k = open-refused q b 10 (open-10 q b (fine (c .before .before .before .before)) (short-constants q b (omega (arith, c .before .if2 .taken, c .before .before .before .rooms-of .ensures .constants-are)))) (λ z. omega arith) in
+    (c .refused2 .ensures ∙ ap (refusedWith 10) (zeros (c .before .before .before .before .before .before)) ∙ k .0, k .1)
+
+refused-requires-3 : tie.Need-refused-requires-3
+refused-requires-3 c κs = search needs
+
+returns-3 : tie.Need-returns-3
+returns-3 c =
+    let a = c .before .before .before .before .before .before .before .before .before .before .before .before .before .before .args in
+    let q = a .plan in
+    let b = storeOf (a .constants .now) (a .copies .now) (a .scratch .now) (a .tables .now) in
+    let k = open-refused q b 10 (open-10 q b (fine (c .before .before .before .before .before .before)) (short-copies q b (omega (arith, c .before .before .before .if2 .left, c .before .before .before .before .before .rooms-of .ensures .constants-are)) (omega (arith, c .before .if3 .taken, c .before .before .before .before .before .rooms-of .ensures .copies-are)))) (λ z. omega arith) in
+    (c .refused3 .ensures ∙ ap (refusedWith 10) (zeros (c .before .before .before .before .before .before .before .before)) ∙ k .0, k .1)
+
+refused-requires-4 : tie.Need-refused-requires-4
+refused-requires-4 c κs = search needs
+
+returns-4 : tie.Need-returns-4
+returns-4 c =
+    let a = c .before .before .before .before .before .before .before .before .before .before .before .before .before .before .before .before .args in
+    let q = a .plan in
+    let b = storeOf (a .constants .now) (a .copies .now) (a .scratch .now) (a .tables .now) in
+    let k = open-refused q b 10 (open-10 q b (fine (c .before .before .before .before .before .before .before .before)) (short-scratch q b (omega (arith, c .before .before .before .before .before .if2 .left, c .before .before .before .before .before .before .before .rooms-of .ensures .constants-are)) (omega (arith, c .before .before .before .if3 .left, c .before .before .before .before .before .before .before .rooms-of .ensures .copies-are)) (omega (arith, c .before .if4 .taken, c .before .before .before .before .before .before .before .rooms-of .ensures .scratch-is)))) (λ z. omega arith) in
+    (c .refused4 .ensures ∙ ap (refusedWith 10) (zeros (c .before .before .before .before .before .before .before .before .before .before)) ∙ k .0, k .1)
+
+refused-requires-5 : tie.Need-refused-requires-5
+refused-requires-5 c κs = search needs
+
+returns-5 : tie.Need-returns-5
+returns-5 c =
+    let a = c .before .before .before .before .before .before .before .before .before .before .before .before .before .before .before .before .before .before .args in
+    let q = a .plan in
+    let b = storeOf (a .constants .now) (a .copies .now) (a .scratch .now) (a .tables .now) in
+    let k = open-refused q b 10 (open-10 q b (fine (c .before .before .before .before .before .before .before .before .before .before)) (short-tables q b (omega (arith, c .before .before .before .before .before .before .before .if2 .left, c .before .before .before .before .before .before .before .before .before .rooms-of .ensures .constants-are)) (omega (arith, c .before .before .before .before .before .if3 .left, c .before .before .before .before .before .before .before .before .before .rooms-of .ensures .copies-are)) (omega (arith, c .before .before .before .if4 .left, c .before .before .before .before .before .before .before .before .before .rooms-of .ensures .scratch-is)) (omega (arith, c .before .if5 .taken, c .before .before .before .before .before .before .before .before .before .rooms-of .ensures .tables-are)))) (λ z. omega arith) in
+    (c .refused5 .ensures ∙ ap (refusedWith 10) (zeros (c .before .before .before .before .before .before .before .before .before .before .before .before)) ∙ k .0, k .1)
+
+fill-labels-requires : tie.Need-fill-labels-requires
+fill-labels-requires c κs = search needs
+
+-- with the ranges and the room that opening has tested, the labels' number is the search's
+fill-is : (n k : ℕ) (copies : List ℕ) → rangesFit n k ≡ true → k * n ≤ length copies → fillNumber n k copies ≡ searchNumber n k
+unfolding fillNumber
+fill-is n k copies r h = rw (r, le-leb (k * n) (length copies) h)
+
+-- opening's number is the labels'
+number-is : (c : tie.After-fill-labels) → let a = c .before .before .before .before .before .before .before .before .before .before .before .before .before .before .before .before .before .before .before .args in openNumber (settingOf (a .plan)) (storeOf (a .constants .now) (a .copies .now) (a .scratch .now) (a .tables .now)) ≡ c .fill-labels .result
+number-is c =
+    let a = c .before .before .before .before .before .before .before .before .before .before .before .before .before .before .before .before .before .before .before .args in
+    let q = a .plan in
+    let b = storeOf (a .constants .now) (a .copies .now) (a .scratch .now) (a .tables .now) in
+    let l = long (c .before .before .before .before .before .before .before .before .before .before .before .before .before .before .before .before .before .before .before) in
+    let w = sound q (fine (c .before .before .before .before .before .before .before .before .before .before .before)) (omega arith) in
+    let m : copyRoom (settingOf q) ≤ length (a .copies .now) = (omega (arith, c .before .before .before .before .before .before .if3 .left, c .before .before .before .before .before .before .before .before .before .before .rooms-of .ensures .copies-are)) in
+    open-own q b (fine (c .before .before .before .before .before .before .before .before .before .before .before)) (long-enough q b (omega (arith, c .before .before .before .before .before .before .before .before .if2 .left, c .before .before .before .before .before .before .before .before .before .before .rooms-of .ensures .constants-are)) m (omega (arith, c .before .before .before .before .if4 .left, c .before .before .before .before .before .before .before .before .before .before .rooms-of .ensures .scratch-is)) (omega (arith, c .before .before .if5 .left, c .before .before .before .before .before .before .before .before .before .before .rooms-of .ensures .tables-are)))
+    ∙ sym (c .fill-labels .ensures .0 ∙ fill-is (q .trace) (q .copy) (a .copies .now) (w .ranges-fit-too) m)
+
+refused-requires-6 : tie.Need-refused-requires-6
+refused-requires-6 c κs = search needs
+
+same-length : tie.Need-same-length
+same-length c = search needs
+
+returns-6 : tie.Need-returns-6
+returns-6 c =
+    let a = c .before .before .before .before .before .before .before .before .before .before .before .before .before .before .before .before .before .before .before .before .before .before .before .args in
+    let q = a .plan in
+    let b = storeOf (a .constants .now) (a .copies .now) (a .scratch .now) (a .tables .now) in
+    let f = c .before .before .before .before .fill-labels in
+    let k = open-refused q b (f .result) (number-is (c .before .before .before .before)) (c .before .if6 .taken) in
+    let kept = f .ensures .1 ∙ written-refused (q .trace) (q .copy) (a .copies .now) (λ z. c .before .if6 .taken (f .ensures .0 ∙ z)) in
+    (c .refused6 .ensures ∙ ap (refusedWith (f .result)) (zeros (c .before .before .before .before .before .before .before .before .before .before .before .before .before .before .before .before .before)) ∙ k .0, ap (λ (y : List ℕ). storeOf (a .constants .now) y (a .scratch .now) (a .tables .now)) kept ∙ k .1)
+
+clear-requires : tie.Need-clear-requires
+clear-requires c κs = search needs
+
+clear-requires-2 : tie.Need-clear-requires-2
+clear-requires-2 c κs = search needs
+
+clear-requires-3 : tie.Need-clear-requires-3
+clear-requires-3 c κs = search needs
+
+start-requires-2 : tie.Need-start-requires-2
+start-requires-2 c κs = search needs
+
+same-length-2 : tie.Need-same-length-2
+same-length-2 c = search needs
+
+same-length-3 : tie.Need-same-length-3
+same-length-3 c = search needs
+
+same-length-4 : tie.Need-same-length-4
+same-length-4 c = search needs
+
+same-length-5 : tie.Need-same-length-5
+same-length-5 c = search needs
+
+four : {a a' b b' s s' t t' : List ℕ} → a ≡ a' → b ≡ b' → s ≡ s' → t ≡ t' → storeOf a b s t ≡ storeOf a' b' s' t'
+four e f g h = cc
+
+as-taken : {s s' : Intake} → s ≡ s' → refusedWith 0 s ≡ refusedWith 0 s'
+as-taken e = ap (refusedWith 0) e
+
+returns-7 : tie.Need-returns-7
+returns-7 c =
+    let a = c .before .before .before .before .before .before .before .before .before .before .before .before .before .before .before .before .before .before .before .before .before .before .before .before .before .before .before .before .before .before .before .before .before .before .before .args in
+    let q = a .plan in
+    let b = storeOf (a .constants .now) (a .copies .now) (a .scratch .now) (a .tables .now) in
+    let f = c .before .before .before .before .before .before .before .before .before .before .before .before .before .before .before .before .fill-labels in
+    let r = c .before .before .before .before .before .before .before .before .before .before .before .before .before .before .before .before .before .before .before .before .before .before .before .before .before .before .rooms-of .ensures in
+    let k = open-taken q b (number-is (c .before .before .before .before .before .before .before .before .before .before .before .before .before .before .before .before) ∙ c .before .before .before .before .before .before .before .before .before .before .before .before .before .if6 .left) in
+    let labelled = f .ensures .1 ∙ written-is (q .trace) (q .copy) (a .copies .now) (sym (f .ensures .0) ∙ c .before .before .before .before .before .before .before .before .before .before .before .before .before .if6 .left) in (
+      as-taken (c .start2 .ensures) ∙ k .0,
+      four (c .before .before .before .before .before .before .before .before .before .before .before .clear .ensures ∙ ap (λ (n : ℕ). cleared n (a .constants .now)) (r .constants-are)) labelled (c .before .before .before .before .before .before .before .clear2 .ensures ∙ ap (λ (n : ℕ). cleared n (a .scratch .now)) (r .scratch-is)) (c .before .before .before .clear3 .ensures ∙ ap (λ (n : ℕ). cleared n (a .tables .now)) (r .tables-are)) ∙ k .1,
+    )
+
+pub open-spec : {M : Type 1} → statement M
+open-spec =
+    tie.close
+    (tie.spec
+    zero-requires
+    start-requires
+    fault-requires
+    refused-requires
+    returns
+    rooms-of-requires
+    refused-requires-2
+    returns-2
+    refused-requires-3
+    returns-3
+    refused-requires-4
+    returns-4
+    refused-requires-5
+    returns-5
+    fill-labels-requires
+    refused-requires-6
+    same-length
+    returns-6
+    clear-requires
+    clear-requires-2
+    clear-requires-3
+    start-requires-2
+    same-length-2
+    same-length-3
+    same-length-4
+    same-length-5
+    returns-7)

@@ -1,0 +1,145 @@
+-- `columns::intake::Intake::rows` meets its contract: 19, 10, the first faulty record, then the rows written and their gates marked.
+-- Assumes nothing.
+use borrow.Author.Needs.{needs}
+use mathlib.Core.Path.{_≡_, refl, sym, ap, _∙_}
+use mathlib.Core.Logic.{_≢_}
+use mathlib.Core.Bool.{true}
+use native.Mathlib.Omega.{arith}
+use native.Mathlib.Nat.{mul-le-mul}
+use Prim.Native.Nat.{ℕ, _+_, _*_, _<_, _≤_}
+use lib.ListN.{length, getD}
+use Rattle.pieces.specs.Setting.{cols, stands, constantRoom, copyRoom, specialRoom}
+use Rattle.pieces.specs.NumberLaws.{Stood, stood}
+use Rattle.columns.specs.Intake.{settingOf, stateOf}
+use Rattle.columns.specs.PlanLaws.{Sound, sound}
+use mathlib.Core.List.{List}
+use Rattle.selector.specs.Gates.{constantsOf}
+use Rattle.tree.specs.Plan.{gatesGiven, planExtra, planPath}
+use Rattle.pieces.specs.Setting.{State}
+use Rattle.pieces.specs.Records.{rowsOf}
+use Rattle.pieces.specs.Rows.{rowsFault, rowsNumber, rowsWritten, rowsState}
+use Rattle.pieces.specs.FaultLaws.{rows-own-same}
+use Rattle.columns.specs.Placed.{GatesOf}
+use Rattle.columns.specs.IntakeLaws.{plan-fine, rows-19, rows-10, rows-own, rows-refused, rows-taken}
+use borrow.Author.Needs.{needs}
+use Rattle.columns.proofs.intake.Intake.rows.Statement.{statement}
+use Rattle.columns.proofs.intake.Intake.rows.Tie as tie
+
+stands-requires : tie.Need-stands-requires
+stands-requires c κs = search needs
+
+-- the state stands, so its plan is sound and its counts are within
+upright : (c : tie.Then1) → stands (settingOf (c .before .before .before .before .args .self .plan)) (stateOf (c .before .before .before .before .args .self)) ≡ true
+upright c = sym (c .before .stands .ensures) ∙ c .if1 .taken
+
+fine : (c : tie.Then1) → Sound (c .before .before .before .before .args .self .plan)
+fine c =
+    let q = c .before .before .before .before .args .self .plan in
+    let l : length (q .gates) ≡ 384 = search needs in
+    sound q (plan-fine (c .before .before .before .before .args .self) (upright c)) (omega arith)
+
+counts : (c : tie.Then1) → Stood (settingOf (c .before .before .before .before .args .self .plan)) (stateOf (c .before .before .before .before .args .self))
+counts c = stood (settingOf (c .before .before .before .before .args .self .plan)) (stateOf (c .before .before .before .before .args .self)) (upright c)
+
+small : (a n b : ℕ) → a ≤ b → n ≤ 65536 → a * n ≤ b * 65536
+small a n b h k = mul-le-mul h k
+
+rooms-of-requires : tie.Need-rooms-of-requires
+rooms-of-requires c κs = plan-fine (c .before .before .before .before .before .args .self) (upright (c .before))
+
+refused-requires : tie.Need-refused-requires
+refused-requires c κs = search needs
+
+returns : tie.Need-returns
+returns c =
+    let s = c .before .before .before .before .before .before .before .before .before .args .self in
+    let ws = c .before .before .before .before .before .before .before .before .before .args .piece .now in
+    let b = c .before .before .before .before .before .before .before .before .before .args .constants .now in
+    let k = rows-refused s ws b 10 (rows-10 s ws b (upright (c .before .before .before .before .before)) (omega (arith, c .before .if2 .taken, c .before .before .before .rooms-of .ensures .constants-are))) (λ z. omega arith) in
+    (c .refused .ensures ∙ k .0, k .1)
+
+gate-rows-requires : tie.Need-gate-rows-requires
+gate-rows-requires c κs = plan-fine (c .before .before .before .before .before .before .before .before .args .self) (upright (c .before .before .before .before))
+
+rows-fault-requires : tie.Need-rows-fault-requires
+rows-fault-requires c κs =
+    let w = fine (c .before .before .before .before .before .before .before) in
+    (omega (arith, w .few-gates, c .before .before .gate-rows .ensures .many-is), counts (c .before .before .before .before .before .before .before) .rows-in, w .ranges .long)
+
+-- the piece's number is its first faulty record's: the gates' constants are the plan's
+fault-is : (c : tie.After-rows-fault) → let s = c .before .before .before .before .before .before .before .before .before .before .before .before .args .self in
+    c .rows-fault .result ≡ rowsFault (s .plan .«gate_count») (constantsOf (planExtra (s .plan)) (gatesGiven (s .plan))) (s .plan .trace) (s .rows) (rowsOf (c .before .before .before .before .before .before .before .before .before .before .before .before .args .piece .now))
+fault-is c =
+    let s = c .before .before .before .before .before .before .before .before .before .before .before .before .args .self in
+    let g = c .before .before .before .gate-rows .ensures in
+    let e = rw (g .many-is) at (c .rows-fault .ensures) in
+    e ∙ rows-own-same (s .plan .«gate_count») _ (constantsOf (planExtra (s .plan)) (gatesGiven (s .plan))) (s .plan .trace) (s .rows) (rowsOf (c .before .before .before .before .before .before .before .before .before .before .before .before .args .piece .now)) (g .own-is)
+
+own : (c : tie.After-rows-fault) → let s = c .before .before .before .before .before .before .before .before .before .before .before .before .args .self in rowsNumber (settingOf (s .plan)) (stateOf s) (c .before .before .before .before .before .before .before .before .before .before .before .before .args .piece .now) (c .before .before .before .before .before .before .before .before .before .before .before .before .args .constants .now) ≡ c .rows-fault .result
+own c =
+    let s = c .before .before .before .before .before .before .before .before .before .before .before .before .args .self in
+    rows-own s (c .before .before .before .before .before .before .before .before .before .before .before .before .args .piece .now) (c .before .before .before .before .before .before .before .before .before .before .before .before .args .constants .now) (upright (c .before .before .before .before .before .before .before .before)) (omega (arith, c .before .before .before .before .if2 .left, c .before .before .before .before .before .before .rooms-of .ensures .constants-are)) ∙ sym (fault-is c)
+
+refused-requires-2 : tie.Need-refused-requires-2
+refused-requires-2 c κs = search needs
+
+returns-2 : tie.Need-returns-2
+returns-2 c =
+    let s = c .before .before .before .before .before .before .before .before .before .before .before .before .before .before .args .self in
+    let ws = c .before .before .before .before .before .before .before .before .before .before .before .before .before .before .args .piece .now in
+    let b = c .before .before .before .before .before .before .before .before .before .before .before .before .before .before .args .constants .now in
+    let k = rows-refused s ws b _ (own (c .before .before)) (c .before .if3 .taken) in
+    (c .refused2 .ensures ∙ k .0, k .1)
+
+write-rows-requires : tie.Need-write-rows-requires
+write-rows-requires c κs =
+    let q = c .before .before .before .before .before .before .before .before .before .before .before .before .before .before .before .before .args .self .plan in
+    let w = fine (c .before .before .before .before .before .before .before .before .before .before .before .before) in
+    let g = c .before .before .before .before .before .before .before .gate-rows .ensures in
+    let room : q .constants * q .trace ≤ length (c .before .before .before .before .before .before .before .before .before .before .before .before .before .before .before .before .args .constants .now) = omega (arith, c .before .before .before .before .before .before .before .before .if2 .left, c .before .before .before .before .before .before .before .before .before .before .rooms-of .ensures .constants-are) in (
+      (w .ranges .long, omega (arith, w .height), omega (arith, w .few-gates, g .many-is), room),
+      (rw (g .many-is) (g .room), sym (c .before .before .before .before .rows-fault .ensures) ∙ c .before .before .before .if3 .left),
+    )
+
+same-length : tie.Need-same-length
+same-length c = search needs
+
+returns-3 : tie.Need-returns-3
+unfolding rowsWritten
+returns-3 c =
+    let s = c .before .before .before .before .before .before .before .before .before .before .before .before .before .before .before .before .before .before .before .args .self in
+    let ws = c .before .before .before .before .before .before .before .before .before .before .before .before .before .before .before .before .before .before .before .args .piece .now in
+    let b = c .before .before .before .before .before .before .before .before .before .before .before .before .before .before .before .before .before .before .before .args .constants .now in
+    let k = rows-taken s ws b (own (c .before .before .before .before .before .before .before) ∙ c .before .before .before .before .before .before .if3 .left) in
+    let g = c .before .before .before .before .before .before .before .before .before .before .gate-rows .ensures in
+    let w = c .before .before .write-rows .ensures in
+    (rw (w .0, w .1 .0) (k .0), w .1 .1 (planPath (s .plan)) (rw (g .many-is) (g .spells-paths)) ∙ k .1)
+
+refused-requires-3 : tie.Need-refused-requires-3
+refused-requires-3 c κs = search needs
+
+returns-4 : tie.Need-returns-4
+returns-4 c =
+    let s = c .before .before .before .before .before .args .self in
+    let ws = c .before .before .before .before .before .args .piece .now in
+    let b = c .before .before .before .before .before .args .constants .now in
+    let k = rows-refused s ws b 19 (rows-19 s ws b (sym (c .before .before .stands .ensures) ∙ c .before .if1 .left)) (λ z. omega arith) in
+    (c .refused3 .ensures ∙ k .0, k .1)
+
+pub rows-spec : {M : Type 1} → statement M
+rows-spec =
+    tie.close
+    (tie.spec
+    stands-requires
+    rooms-of-requires
+    refused-requires
+    returns
+    gate-rows-requires
+    rows-fault-requires
+    refused-requires-2
+    returns-2
+    write-rows-requires
+    same-length
+    returns-3
+    refused-requires-3
+    returns-4)

@@ -1,0 +1,187 @@
+-- The answers of the intake's calls, case by case: 19, then 10, then the section's own number, then acceptance.
+--
+-- Main statements: for each call its number in each case, `..-refused` (the state and the buffers as they were) and `..-taken`.
+use mathlib.Core.Path.{_≡_, refl, sym, ap, _∙_}
+use mathlib.Core.Logic.{_≢_}
+use mathlib.Core.Bool.{Bool, true, false}
+use mathlib.Core.List.{List}
+use Prim.Native.Nat.{ℕ, _+_, _*_, _≤_, _<_}
+use native.Mathlib.Omega.{arith}
+use lib.ListN.{length}
+use lib.Dec.{leb, eqb}
+use borrow.Author.Tests.{eq-eqb, ne-eqb, eqb-true, le-leb, lt-leb}
+use Rattle.base.specs.Pick.{pick, pick-yes, pick-no}
+use Rattle.tree.specs.Plan.{planFault, zeroPlan}
+use Rattle.tree.specs.declared.plan.Plan.{Plan}
+use Rattle.pieces.specs.Setting.{Setting, State, Store, Cols, cols, stands, constantRoom, copyRoom, scratchRoom, tableRoom, specialRoom}
+use Rattle.pieces.specs.Records.{rowsOf, tablesOf}
+use Rattle.pieces.specs.Opening.{roomToOpen, openNumber, openStore}
+use Rattle.pieces.specs.Rows.{rowsFault, rowsNumber, rowsWritten, rowsState}
+use Rattle.pieces.specs.SWords.{sWordsFault, sWordsNumber, sWordsWritten, sWordsState}
+use Rattle.pieces.specs.Cells.{cellsFault, cellsNumber, roomForCells, cellsWritten, cellsState}
+use Rattle.pieces.specs.Tables.{tablesFault, tablesNumber, tablesWritten, tablesState, stackOf}
+use Rattle.pieces.specs.NumberLaws.{Stood, stood}
+use Rattle.columns.specs.Intake.{settingOf, stateOf, withState, startOf, answered, unlessRefused, refusedWith, openAnswer, openLeft, rowsAnswer, rowsLeft, sWordsAnswer, sWordsLeft, cellsAnswer, cellsLeft, tablesAnswer, tablesLeft}
+use Rattle.columns.specs.declared.intake.Intake.{Intake}
+use Rattle.columns.specs.declared.intake.Taken.{Taken}
+
+-- a state that stands has a plan without a fault
+pub plan-fine : (s : Intake) → stands (settingOf (s .plan)) (stateOf s) ≡ true → planFault (s .plan) ≡ 0
+plan-fine s e = eqb-true (planFault (s .plan)) 0 (stood (settingOf (s .plan)) (stateOf s) e .sound-plan)
+
+-- ---- an answer, by its number
+refused-answer : (n : ℕ) (s : Intake) (t : State) → n ≢ 0 → refusedWith n s ≡ answered n s t
+refused-answer n s t d = sym (rw (ne-eqb n 0 d))
+
+taken-answer : (n : ℕ) (s : Intake) (t : State) → n ≡ 0 → _≡_ {A = Taken} (record { number = 0; state = withState (s .plan) t }) (answered n s t)
+taken-answer n s t e = sym (rw (eq-eqb n 0 e))
+
+refused-left : {B : Type 0} (n : ℕ) (new old : B) → n ≢ 0 → old ≡ unlessRefused n new old
+refused-left n new old d = sym (rw (ne-eqb n 0 d))
+
+taken-left : {B : Type 0} (n : ℕ) (new old : B) → n ≡ 0 → new ≡ unlessRefused n new old
+taken-left n new old e = sym (rw (eq-eqb n 0 e))
+
+module _ (s : Intake) (ws : List ℕ) where
+  abbrev x : Setting
+  x = settingOf (s .plan)
+
+  abbrev st : State
+  st = stateOf s
+
+  -- ---- rows
+  module _ (b : List ℕ) where
+    pub rows-19 : stands x st ≡ false → rowsNumber x st ws b ≡ 19
+    unfolding rowsNumber
+    rows-19 e = rw e
+
+    pub rows-10 : stands x st ≡ true → length b < constantRoom x → rowsNumber x st ws b ≡ 10
+    unfolding rowsNumber
+    rows-10 e h = rw (e, lt-leb (constantRoom x) (length b) h)
+
+    pub rows-own : stands x st ≡ true → constantRoom x ≤ length b → rowsNumber x st ws b ≡ rowsFault (x .gates) (x .own) (x .trace) (st .rowCount) (rowsOf ws)
+    unfolding rowsNumber
+    rows-own e h = rw (e, le-leb (constantRoom x) (length b) h)
+
+    pub rows-refused : (n : ℕ) → rowsNumber x st ws b ≡ n → n ≢ 0 → (refusedWith n s ≡ rowsAnswer s ws b) × (b ≡ rowsLeft s ws b)
+    unfolding rowsAnswer rowsLeft
+    rows-refused n e d = rw e (refused-answer n s (rowsState st ws) d, refused-left n (rowsWritten x st ws b) b d)
+
+    pub rows-taken : rowsNumber x st ws b ≡ 0 → (_≡_ {A = Taken} (record { number = 0; state = withState (s .plan) (rowsState st ws) }) (rowsAnswer s ws b)) × (rowsWritten x st ws b ≡ rowsLeft s ws b)
+    unfolding rowsAnswer rowsLeft
+    rows-taken e = (taken-answer (rowsNumber x st ws b) s (rowsState st ws) e, taken-left (rowsNumber x st ws b) (rowsWritten x st ws b) b e)
+
+    -- ---- S words
+    pub words-19 : stands x st ≡ false → sWordsNumber x st ws b ≡ 19
+    unfolding sWordsNumber
+    words-19 e = rw e
+
+    pub words-10 : stands x st ≡ true → length b < constantRoom x → sWordsNumber x st ws b ≡ 10
+    unfolding sWordsNumber
+    words-10 e h = rw (e, lt-leb (constantRoom x) (length b) h)
+
+    pub words-own : stands x st ≡ true → constantRoom x ≤ length b → sWordsNumber x st ws b ≡ sWordsFault (specialRoom x) (st .wordCount) ws
+    unfolding sWordsNumber
+    words-own e h = rw (e, le-leb (constantRoom x) (length b) h)
+
+    pub words-refused : (n : ℕ) → sWordsNumber x st ws b ≡ n → n ≢ 0 → (refusedWith n s ≡ sWordsAnswer s ws b) × (b ≡ sWordsLeft s ws b)
+    unfolding sWordsAnswer sWordsLeft
+    words-refused n e d = rw e (refused-answer n s (sWordsState st ws) d, refused-left n (sWordsWritten x st ws b) b d)
+
+    pub words-taken : sWordsNumber x st ws b ≡ 0 → (_≡_ {A = Taken} (record { number = 0; state = withState (s .plan) (sWordsState st ws) }) (sWordsAnswer s ws b)) × (sWordsWritten x st ws b ≡ sWordsLeft s ws b)
+    unfolding sWordsAnswer sWordsLeft
+    words-taken e = (taken-answer (sWordsNumber x st ws b) s (sWordsState st ws) e, taken-left (sWordsNumber x st ws b) (sWordsWritten x st ws b) b e)
+
+    -- ---- tables
+    pub tables-19 : stands x st ≡ false → tablesNumber x st ws b ≡ 19
+    unfolding tablesNumber
+    tables-19 e = rw e
+
+    pub tables-10 : stands x st ≡ true → length b < tableRoom x → tablesNumber x st ws b ≡ 10
+    unfolding tablesNumber
+    tables-10 e h = rw (e, lt-leb (tableRoom x) (length b) h)
+
+    pub tables-own : stands x st ≡ true → tableRoom x ≤ length b → tablesNumber x st ws b ≡ tablesFault (x .lookup) (x .width) (x .trace) (stackOf st) (tablesOf ws)
+    unfolding tablesNumber
+    tables-own e h = rw (e, le-leb (tableRoom x) (length b) h)
+
+    pub tables-refused : (n : ℕ) → tablesNumber x st ws b ≡ n → n ≢ 0 → (refusedWith n s ≡ tablesAnswer s ws b) × (b ≡ tablesLeft s ws b)
+    unfolding tablesAnswer tablesLeft
+    tables-refused n e d = rw e (refused-answer n s (tablesState st ws) d, refused-left n (tablesWritten x st ws b) b d)
+
+    pub tables-taken : tablesNumber x st ws b ≡ 0 → (_≡_ {A = Taken} (record { number = 0; state = withState (s .plan) (tablesState st ws) }) (tablesAnswer s ws b)) × (tablesWritten x st ws b ≡ tablesLeft s ws b)
+    unfolding tablesAnswer tablesLeft
+    tables-taken e = (taken-answer (tablesNumber x st ws b) s (tablesState st ws) e, taken-left (tablesNumber x st ws b) (tablesWritten x st ws b) b e)
+
+  -- ---- cells
+  module _ (b : Cols) where
+    pub cells-19 : stands x st ≡ false → cellsNumber x st ws b ≡ 19
+    unfolding cellsNumber
+    cells-19 e = rw e
+
+    pub cells-10-copies : stands x st ≡ true → length (b .copies) < copyRoom x → cellsNumber x st ws b ≡ 10
+    unfolding cellsNumber roomForCells
+    cells-10-copies e h = rw (e, lt-leb (copyRoom x) (length (b .copies)) h)
+
+    pub cells-10-scratch : stands x st ≡ true → copyRoom x ≤ length (b .copies) → length (b .scratch) < scratchRoom x → cellsNumber x st ws b ≡ 10
+    unfolding cellsNumber roomForCells
+    cells-10-scratch e h k = rw (e, le-leb (copyRoom x) (length (b .copies)) h, lt-leb (scratchRoom x) (length (b .scratch)) k)
+
+    pub cells-own : stands x st ≡ true → copyRoom x ≤ length (b .copies) → scratchRoom x ≤ length (b .scratch) → cellsNumber x st ws b ≡ cellsFault (copyRoom x) (x .variables) (st .cellCount) ws
+    unfolding cellsNumber roomForCells
+    cells-own e h k = rw (e, le-leb (copyRoom x) (length (b .copies)) h, le-leb (scratchRoom x) (length (b .scratch)) k)
+
+    pub cells-refused : (n : ℕ) → cellsNumber x st ws b ≡ n → n ≢ 0 → (refusedWith n s ≡ cellsAnswer s ws b) × (b ≡ cellsLeft s ws b)
+    unfolding cellsAnswer cellsLeft
+    cells-refused n e d = rw e (refused-answer n s (cellsState st ws) d, refused-left n (cellsWritten st ws b) b d)
+
+    pub cells-taken : cellsNumber x st ws b ≡ 0 → (_≡_ {A = Taken} (record { number = 0; state = withState (s .plan) (cellsState st ws) }) (cellsAnswer s ws b)) × (cellsWritten st ws b ≡ cellsLeft s ws b)
+    unfolding cellsAnswer cellsLeft
+    cells-taken e = (taken-answer (cellsNumber x st ws b) s (cellsState st ws) e, taken-left (cellsNumber x st ws b) (cellsWritten st ws b) b e)
+
+-- ---- opening
+module _ (q : Plan) (b : Store) where
+  abbrev o : Setting
+  o = settingOf q
+
+  pub open-19 : planFault q ≢ 0 → openNumber o b ≡ 19
+  unfolding openNumber
+  open-19 d = rw (ne-eqb (planFault q) 0 d)
+
+  pub open-10 : planFault q ≡ 0 → roomToOpen o b ≡ false → openNumber o b ≡ 10
+  unfolding openNumber
+  open-10 e h = pick-yes (eqb (planFault q) 0) (pick (roomToOpen o b) (o .labelled) 10) 19 (eq-eqb (planFault q) 0 e) ∙ pick-no (roomToOpen o b) (o .labelled) 10 h
+
+  pub open-own : planFault q ≡ 0 → roomToOpen o b ≡ true → openNumber o b ≡ o .labelled
+  unfolding openNumber
+  open-own e h = pick-yes (eqb (planFault q) 0) (pick (roomToOpen o b) (o .labelled) 10) 19 (eq-eqb (planFault q) 0 e) ∙ pick-yes (roomToOpen o b) (o .labelled) 10 h
+
+  pub short-constants : length (b .constants) < constantRoom o → roomToOpen o b ≡ false
+  unfolding roomToOpen
+  short-constants h = rw (lt-leb (constantRoom o) (length (b .constants)) h)
+
+  pub short-copies : constantRoom o ≤ length (b .constants) → length (b .cells .copies) < copyRoom o → roomToOpen o b ≡ false
+  unfolding roomToOpen
+  short-copies h k = rw (le-leb (constantRoom o) (length (b .constants)) h, lt-leb (copyRoom o) (length (b .cells .copies)) k)
+
+  pub short-scratch : constantRoom o ≤ length (b .constants) → copyRoom o ≤ length (b .cells .copies) → length (b .cells .scratch) < scratchRoom o → roomToOpen o b ≡ false
+  unfolding roomToOpen
+  short-scratch h k l = rw (le-leb (constantRoom o) (length (b .constants)) h, le-leb (copyRoom o) (length (b .cells .copies)) k, lt-leb (scratchRoom o) (length (b .cells .scratch)) l)
+
+  pub short-tables : constantRoom o ≤ length (b .constants) → copyRoom o ≤ length (b .cells .copies) → scratchRoom o ≤ length (b .cells .scratch) → length (b .tables) < tableRoom o → roomToOpen o b ≡ false
+  unfolding roomToOpen
+  short-tables h k l m =
+      rw (le-leb (constantRoom o) (length (b .constants)) h, le-leb (copyRoom o) (length (b .cells .copies)) k, le-leb (scratchRoom o) (length (b .cells .scratch)) l, lt-leb (tableRoom o) (length (b .tables)) m)
+
+  pub long-enough : constantRoom o ≤ length (b .constants) → copyRoom o ≤ length (b .cells .copies) → scratchRoom o ≤ length (b .cells .scratch) → tableRoom o ≤ length (b .tables) → roomToOpen o b ≡ true
+  unfolding roomToOpen
+  long-enough h k l m =
+      rw (le-leb (constantRoom o) (length (b .constants)) h, le-leb (copyRoom o) (length (b .cells .copies)) k, le-leb (scratchRoom o) (length (b .cells .scratch)) l, le-leb (tableRoom o) (length (b .tables)) m)
+
+  pub open-refused : (n : ℕ) → openNumber o b ≡ n → n ≢ 0 → (refusedWith n (startOf zeroPlan 0) ≡ openAnswer q b) × (b ≡ openLeft q b)
+  unfolding openAnswer openLeft
+  open-refused n e d = rw e (sym (rw (ne-eqb n 0 d)), refused-left n (openStore o b) b d)
+
+  pub open-taken : openNumber o b ≡ 0 → (_≡_ {A = Taken} (record { number = 0; state = startOf q 1 }) (openAnswer q b)) × (openStore o b ≡ openLeft q b)
+  unfolding openAnswer openLeft
+  open-taken e = (sym (rw (eq-eqb (openNumber o b) 0 e)), taken-left (openNumber o b) (openStore o b) b e)
