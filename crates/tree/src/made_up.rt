@@ -198,7 +198,7 @@ fn numbers_fit(seen: Seen, d: u64, k: u64, f: u64) -> bool
 }
 
 // Whether the nodes are a tree of the placed gates, and D, K and F are its own.
-pub fn nodes_fit<'a>(
+pub(crate) fn nodes_fit<'a>(
     gates: &'a [u64],
     nodes: &'a [u64; 765],
     many: usize,
