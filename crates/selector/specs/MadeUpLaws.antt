@@ -16,7 +16,7 @@ use Rattle.base.specs.Exponent.{exponent, exponent-least}
 use Rattle.base.specs.Pick.{both, both-true, pick, pick-yes}
 use Rattle.selector.specs.Gates.{kindOf, placedGates}
 use Rattle.selector.specs.MadeUp.{allListed, asWanted, justOnce, linkedAt, linkedFrom, mostLevels, mostNodes, nodesFit, numbersAre, numbersFit, treeFits, wanted}
-use Rattle.selector.specs.NodeLaws.{Agrees, left-agrees, mid, mid-room, own-tree, put-left, right-agrees, root-left, root-right, self-agrees, size-some}
+use Rattle.selector.specs.NodeLaws.{Agrees, left-agrees, mid, mid-room, own-tree, put-left, put-right, right-agrees, root-left, root-right, self-agrees, size-some}
 use Rattle.selector.specs.Nodes.{laid, leftAt, nodeWords, rightAt, treeAt}
 use Rattle.selector.specs.RecordLaws.{top-constants}
 use Rattle.selector.specs.Refusals.{Sound}
@@ -72,16 +72,17 @@ module _ (ns : List ℕ) (n : ℕ) where
   pub links : linkedFrom n ns n 0 ≡ true → Links ns n
   links e i h k = within-by i (each-linked n 0 i e (omega arith) (omega arith)) k
 
-leaf-linked : (ms : List ℕ) (n k : ℕ) → leftAt ms k ≡ 0 → linkedAt ms n k ≡ true
+leaf-linked : (ms : List ℕ) (n k : ℕ) → leftAt ms k ≡ 0 → rightAt ms k ≡ 0 → linkedAt ms n k ≡ true
 unfolding linkedAt
-leaf-linked ms n k e = rw (eq-eqb (leftAt ms k) 0 e)
+leaf-linked ms n k e f = rw (eq-eqb (leftAt ms k) 0 e, eq-eqb (rightAt ms k) 0 f)
 
 pub laid-linked : (t : Tree) (i n : ℕ) (ns ms : List ℕ) → (i + size t) * 3 ≤ length ns → i + size t ≤ n → Agrees t i ns ms
     → (k : ℕ) → i ≤ k → k < i + size t → linkedAt ms n k ≡ true
 unfolding laid
 laid-linked (leaf g) i n ns ms room h e k a b =
     let q : k ≡ i = omega arith in
-    rw q (leaf-linked ms n i (e i (omega arith) (omega arith) .left ∙ put-left ns i 0 0 g (omega arith)))
+    let w = e i (omega arith) (omega arith) in
+    rw q (leaf-linked ms n i (w .left ∙ put-left ns i 0 0 g (omega arith)) (w .right ∙ put-right ns i 0 0 g (omega arith)))
 laid-linked (fork l r) i n ns ms room h e k a b =
     by (ℕ-discrete k i) (decLt k (i + 1 + size l))
     (laid-linked l (i + 1) n ns ms (omega arith) (omega arith) (left-agrees l r i ns ms room e) k)

@@ -96,7 +96,7 @@ impl Parameters {
     }
 
     // The lookup mode that the words tell of.
-    pub(crate) fn lookup(self) -> LookupParameters
+    pub fn lookup(self) -> LookupParameters
         ensures { λ r. ⌜ r ≡ lookupOf self ⌝ }
     {
         let width = self.width;
