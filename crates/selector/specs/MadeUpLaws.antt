@@ -48,6 +48,10 @@ module _ (ns : List ℕ) (n : ℕ) where
   unfolding linkedAt
   linked-in i e h k l = rw (ne-eqb (leftAt ns i) 0 e, lt-ltb i (leftAt ns i) h, lt-ltb (leftAt ns i) n k, lt-ltb i (rightAt ns i) l)
 
+  pub linked-leaf : (i : ℕ) → leftAt ns i ≡ 0 → linkedAt ns n i ≡ eqb (rightAt ns i) 0
+  unfolding linkedAt
+  linked-leaf i e = rw (eq-eqb (leftAt ns i) 0 e)
+
   pub linked-end : (k i : ℕ) → k ≤ 0 → linkedFrom k ns n i ≡ true
   unfolding linkedFrom
   linked-end k i h = let e : k ≡ 0 = omega arith in rw e

@@ -1,10 +1,10 @@
 -- `made_up::linked_at` meets its contract: its tests are the definition's.
 -- Assumes nothing.
 use borrow.Author.Needs.{needs}
-use borrow.Author.Tests.{eq-eqb, le-leb, le-ltb, lt-leb, lt-ltb, ne-eqb}
+use borrow.Author.Tests.{le-leb, le-ltb, lt-leb, lt-ltb, ne-eqb}
 use mathlib.Core.Path.{sym}
 use Rattle.selector.specs.MadeUp.{linkedAt}
-use Rattle.selector.specs.MadeUpLaws.{linked-in}
+use Rattle.selector.specs.MadeUpLaws.{linked-in, linked-leaf}
 use Rattle.tree.proofs.made_up.linked_at.Statement.{statement}
 use Rattle.tree.proofs.made_up.linked_at.Tie as tie
 
@@ -30,9 +30,9 @@ element-copy-out-right : tie.Need-element-copy-out-right
 element-copy-out-right c = search needs
 
 returns : tie.Need-returns
-unfolding linkedAt
 returns c =
-    simp (eq-eqb _ _ (c .if1 .taken))
+    let a = c .before .before .before .args in
+    sym (linked-leaf (a .nodes .now) (a .count) (a .at) (c .if1 .taken))
 
 returns-2 : tie.Need-returns-2
 returns-2 c =
