@@ -8,3 +8,5 @@ pub mod Copies
 pub mod Modular
 pub mod Powers
 pub mod Roots
+pub mod Fills
+pub mod Cosets

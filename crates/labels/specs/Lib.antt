@@ -1,2 +1,8 @@
 -- 01, 'Labels': definitions in 01's order, then their laws.
+pub mod Refusals
 pub mod Ranges
+pub mod Labels
+pub mod Numerals
+pub mod Search
+pub mod Filling
+pub mod LabelLaws

@@ -1,13 +1,15 @@
 -- 01, the ranges of N and C, which labels, planning and made-up plans all test.
 --
--- Main definition: `rangesFit`. Main statement: `ranges-fit`.
+-- Main definition: `rangesFit`. Main statements: `ranges-fit`, `some-row`, `cells-fit`.
 use mathlib.Core.Path.{_≡_}
-use mathlib.Core.Bool.{Bool, true, false}
-use Prim.Native.Nat.{ℕ, _^_, _≤_}
+use mathlib.Core.Bool.{Bool, true}
+use Prim.Native.Nat.{ℕ, _*_, _^_, _≤_, _<_}
+use native.Mathlib.Nat.{mul-le-mul}
 use native.Mathlib.Omega.{arith}
 use lib.Dec.{leb}
+use lib.Pow.{pow-pos}
 use borrow.Author.Tests.{leb-true}
-use Rattle.base.specs.Pick.{pick, both, both-true}
+use Rattle.base.specs.Pick.{both, both-true}
 use Rattle.base.specs.Exponent.{isPower, exponent, power-is, exponent-least}
 
 -- "N is the trace length, a power of two, 1..65,536."
@@ -49,3 +51,10 @@ ranges-fit n c e =
       some-column = leb-true 1 c (k .0);
       columns = leb-true c mostColumns (k .1);
     }
+
+pub some-row : (n c : ℕ) → Ranges n c → 1 ≤ n
+some-row n c r = let z : 0 < 2 ^ exponent n = pow-pos (exponent n) in omega (arith, r .power)
+
+-- the cells of all columns: at most 4,194,304
+pub cells-fit : (n c : ℕ) → Ranges n c → c * n ≤ 4194304
+cells-fit n c r = mul-le-mul (r .columns) (r .long)

@@ -1,6 +1,6 @@
 -- `labels::ranges_fit` meets its contract: the code makes the definition's tests in the definition's order.
 -- Assumes nothing.
-use borrow.Author.Tests.{lt-ltb, le-ltb, le-leb, lt-leb, eq-eqb, ne-eqb}
+use borrow.Author.Tests.{lt-ltb, le-ltb, le-leb, lt-leb}
 use mathlib.Core.Path.{sym, _∙_}
 use borrow.Author.Needs.{needs}
 use Rattle.labels.specs.Ranges.{rangesFit}

@@ -1,0 +1,131 @@
+-- The claim over every list of calls: 01's words on circuits, path products and entries, then what holds of the columns after the list.
+-- Fillings and PLONK's permutation are in `pieces`, Permutation; calls, their numbers and what they write in `pieces`, Calls.
+--
+-- Main definitions: `Circuit`, `circuit`, `Finishes`, `product`, `RowOf`, `Stands`, `Has`, `Right`, `SameColumns`.
+use mathlib.Core.Path.{_≡_}
+use mathlib.Core.Logic.{_≢_, _↔_, _⊎_}
+use mathlib.Core.Bool.{true, false}
+use mathlib.Core.List.{List, [], _∷_, _++_}
+use Prim.Native.Nat.{ℕ, suc, _+_, _*_, _%_, _<_}
+use lib.ListN.{length, getD, take}
+use lib.Dec.{eqb}
+use Rattle.base.specs.Pick.{pick}
+use Rattle.field.specs.Field.{p, fmul, fsub}
+use Rattle.pieces.specs.Setting.{Setting, Store, Held, constantRoom, copyRoom, tableRoom, specialRoom}
+use Rattle.pieces.specs.Records.{Read, whole, cut, rowsOf, tablesOf}
+use Rattle.pieces.specs.Calls.{Call, rows, sWords, cellWords, tableWords, finishing, number, after}
+use Rattle.pieces.specs.Permutation.{Permutation}
+
+-- "The whole circuit of a list of calls is the parameters and gates given to planning and, for rows, S words, cells and tables each,
+-- the words of that section's accepted pieces, put end to end in the order of the calls." These are the words.
+pub record Circuit : Type 0 where
+  pub rowWords : List ℕ
+  pub sWordsGiven : List ℕ
+  pub cellsGiven : List ℕ
+  pub tablesGiven : List ℕ
+
+abbrev pub nothing : Circuit
+nothing = record { rowWords = []; sWordsGiven = []; cellsGiven = []; tablesGiven = [] }
+
+-- the words of a call's piece
+abbrev pub pieceOf : Call → Circuit
+pieceOf (rows ws) = record { rowWords = ws; sWordsGiven = []; cellsGiven = []; tablesGiven = [] }
+pieceOf (sWords ws) = record { rowWords = []; sWordsGiven = ws; cellsGiven = []; tablesGiven = [] }
+pieceOf (cellWords ws) = record { rowWords = []; sWordsGiven = []; cellsGiven = ws; tablesGiven = [] }
+pieceOf (tableWords ws) = record { rowWords = []; sWordsGiven = []; cellsGiven = []; tablesGiven = ws }
+pieceOf finishing = nothing
+
+-- "A call is accepted when it answers with no refusal number."
+abbrev pub adds : Setting → Call → Held → Circuit
+adds x c h = pick (eqb (number x c h) 0) (pieceOf c) nothing
+
+abbrev pub join : Circuit → Circuit → Circuit
+join a b =
+    record {
+      rowWords = a .rowWords ++ b .rowWords;
+      sWordsGiven = a .sWordsGiven ++ b .sWordsGiven;
+      cellsGiven = a .cellsGiven ++ b .cellsGiven;
+      tablesGiven = a .tablesGiven ++ b .tablesGiven;
+    }
+
+unfoldable pub circuit : Setting → List Call → Held → Circuit
+circuit x [] h = nothing
+circuit x (c ∷ cs) h = join (adds x c h) (circuit x cs (after x c h))
+
+-- "if a finishing in the list was accepted"
+abbrev pub Finishes : Setting → List Call → Held → Type 0
+Finishes x [] h = ⊥
+Finishes x (c ∷ cs) h = ((c ≡ finishing) × (number x c h ≡ 0)) ⊎ Finishes x cs (after x c h)
+
+-- "A path product multiplies, in the field, s for a 1 and 1−s for a 0, s the row's words in the constant buffer's columns 0, 1, ...; an empty path's is 1."
+unfoldable pub factor : ℕ → ℕ → ℕ
+factor d s = pick (eqb d 1) (s % p) (fsub 1 s)
+
+unfoldable pub product : List ℕ → (ℕ → ℕ) → ℕ → ℕ
+product [] word c = 1
+product (d ∷ ds) word c = fmul (factor d (word c)) (product ds word (suc c))
+
+-- the word of row r in column c of a buffer: "Column c of a buffer is its words cN to cN+N−1."
+abbrev pub wordAt : Setting → List ℕ → ℕ → ℕ → ℕ
+wordAt x b r c = getD b (c * x .trace + r) 0
+
+-- 1 for "the all-0 path", else 0; "where one gate is placed, its empty path counts as that path"
+unfoldable pub noughts : List ℕ → ℕ
+noughts [] = 1
+noughts (d ∷ ds) = let rest = noughts ds in pick (eqb d 0) rest 0
+
+-- "Row r is its row record number r, from 0": it names the gate g
+pub record RowOf (ws : List ℕ) (r g : ℕ) : Type 0 where
+  pub many : ℕ
+  pub words : List ℕ
+  pub record-is : getD (rowsOf ws) r cut ≡ whole g many words
+
+-- "An entry is W words and a table number, modes 1 to 4. It stands in the table columns when some row of them holds just these"
+pub record Stands (x : Setting) (b ws : List ℕ) (t : ℕ) : Type 0 where
+  pub row : ℕ
+  pub row-below : row < x .trace
+  pub contents : (c : ℕ) → c < x .width → wordAt x b row c ≡ getD ws c 0
+  pub table-number : wordAt x b row (x .width) ≡ t
+
+-- "a table has it when its number is this one and one of its rows is these words." "tables are numbered from 1, empty ones counted."
+pub record Has (x : Setting) (T ws : List ℕ) (t : ℕ) : Type 0 where
+  pub place : ℕ
+  pub place-is : suc place ≡ t
+  pub many : ℕ
+  pub words : List ℕ
+  pub record-is : getD (tablesOf T) place cut ≡ whole (x .width) many words
+  pub row : ℕ
+  pub row-below : row < many
+  pub contents : (c : ℕ) → c < x .width → getD words (row * x .width + c) 0 ≡ getD ws c 0
+
+-- the same words in all constant, copy and table columns
+pub record SameColumns (x : Setting) (a b : Store) : Type 0 where
+  pub constants : take (constantRoom x) (a .constants) ≡ take (constantRoom x) (b .constants)
+  pub copies : take (copyRoom x) (a .cells .copies) ≡ take (copyRoom x) (b .cells .copies)
+  pub tables : take (tableRoom x) (a .tables) ≡ take (tableRoom x) (b .tables)
+
+-- The columns in the store s are right for the circuit k. It speaks of no calls.
+pub record Right (x : Setting) (k : Circuit) (s : Store) : Type 1 where
+  -- "A filling keeps the copy columns exactly when cells that name the same variable have the same value.", as PLONK's permutation
+  pub permutation : Permutation (copyRoom x) (k .cellsGiven) (x .labels) (s .cells .copies)
+  -- nothing here is vacuous: every row has its record, every cell and every S column its words
+  pub rows-full : length (rowsOf (k .rowWords)) ≡ x .trace
+  pub cells-full : length (k .cellsGiven) ≡ copyRoom x
+  pub words-full : length (k .sWordsGiven) ≡ specialRoom x
+  -- every row names a listed gate: "A row writes its gate's path, then its constants, then zeros; the S columns follow."
+  pub row-named : (r : ℕ) → r < x .trace → (g : ℕ) × (g < x .gates) × RowOf (k .rowWords) r g
+  pub row-words : (r g : ℕ) → r < x .trace → (o : RowOf (k .rowWords) r g) → (c : ℕ) → c < x .height
+      → wordAt x (s .constants) r c ≡ getD (x .path g ++ o .words) c 0
+  pub s-columns : (j : ℕ) → j < specialRoom x → getD (s .constants) (x .height * x .trace + j) 0 ≡ getD (k .sWordsGiven) j 0
+  -- "In the row of a placed gate, that gate's path product is 1"
+  pub own-product : (r g : ℕ) → r < x .trace → RowOf (k .rowWords) r g → x .placed g ≡ true
+      → product (x .path g) (wordAt x (s .constants) r) 0 ≡ 1
+  -- "and every other placed gate's is 0."
+  pub other-product : (r g h : ℕ) → r < x .trace → RowOf (k .rowWords) r g → x .placed g ≡ true → h < x .gates → x .placed h ≡ true → g ≢ h
+      → product (x .path h) (wordAt x (s .constants) r) 0 ≡ 0
+  -- "In a kind 2 row of a longer list the product is 1 for the all-0 path only", and 0 for every other
+  pub dropped-product : (r g h : ℕ) → r < x .trace → RowOf (k .rowWords) r g → x .placed g ≡ false → h < x .gates → x .placed h ≡ true
+      → product (x .path h) (wordAt x (s .constants) r) 0 ≡ noughts (x .path h)
+  -- "An entry with a nonzero table number stands in the table columns exactly when the table of that number has it."
+  pub entry : x .lookup ≡ true → (ws : List ℕ) (t : ℕ) → length ws ≡ x .width → t ≢ 0
+      → Stands x (s .tables) ws t ↔ Has x (k .tablesGiven) ws t

@@ -1,0 +1,5 @@
+-- Laws that only the proofs of this crate use.
+pub mod Strides
+pub mod RowLoop
+pub mod Parts
+pub mod TableLoop

@@ -1,0 +1,76 @@
+// Cell words: the copy columns and the scratch words grow together.
+ghost use mathlib.Core.Path.{_≡_};
+ghost use Prim.Native.Nat.{ℕ, _+_, _*_, _<_, _≤_};
+ghost use lib.ListN.{length, getD};
+ghost use Rattle.pieces.specs.Setting.{cols};
+ghost use Rattle.pieces.specs.Cells.{placeholder, indexOf, cellFault, cellsFault, placeCell, cellsRun};
+use crate::variable::Variable;
+
+// The number of one cell word, 0 where it has no fault.
+fn cell_fault(total: u64, vars: u64, cell: u64, variable: Variable) -> u64
+    ensures { λ r. ⌜ r ≡ cellFault total vars cell (variable .0) ⌝ }
+{
+    if total <= cell {
+        return 13;
+    }
+    if variable.is_placeholder() {
+        return 0;
+    }
+    if vars <= variable.as_variable_index() {
+        return 14;
+    }
+    0
+}
+
+// The number of the first faulty word of a piece.
+pub fn cells_fault(total: u64, vars: u64, count: u64, piece: &[u64]) -> u64
+    requires { ⌜ (count ≤ total) × (total ≤ 4294967296) ⌝ }
+    ensures { λ r. ⌜ r ≡ cellsFault total vars count (now (piece .entry)) ⌝ }
+{
+    let mut cell = count;
+    let mut i = 0;
+    while i < piece.len() {
+        let fault = cell_fault(total, vars, cell, Variable(piece[i]));
+        if fault != 0 {
+            return fault;
+        }
+        cell = cell + 1;
+        i = i + 1;
+    }
+    0
+}
+
+// One cell word: a placeholder changes nothing, an unseen variable stores the cell's word and
+// number, and a seen one exchanges its value with the cell's word.
+fn place_cell(cell: u64, variable: Variable, copies: &mut [u64], scratch: &mut [u64])
+    requires { ⌜ cell < length (now copies) ⌝ }
+    requires { ⌜ (variable .0 < placeholder → 2 * indexOf (variable .0) + 1 < length (now scratch)) ⌝ }
+    ensures { λ _. ⌜ cols (now (copies .exit)) (now (scratch .exit)) ≡ placeCell cell (variable .0) (cols (now (copies .entry)) (now (scratch .entry))) ⌝ }
+{
+    if variable.is_placeholder() {
+        return;
+    }
+    let at = (2 * variable.as_variable_index()) as usize;
+    let place = cell as usize;
+    let value = scratch[at];
+    let word = copies[place];
+    scratch[at] = word;
+    if value == 0 {
+        scratch[at + 1] = cell;
+    } else {
+        copies[place] = value;
+    }
+}
+
+// The words of a piece without a fault, in the cells from number `count` on.
+pub fn place_cells(count: u64, piece: &[u64], copies: &mut [u64], scratch: &mut [u64])
+    requires { ⌜ count + length (now piece) ≤ length (now copies) ⌝ }
+    requires { ⌜ ((j : ℕ) → j < length (now piece) → getD (now piece) j 0 < placeholder → 2 * indexOf (getD (now piece) j 0) + 1 < length (now scratch)) ⌝ }
+    ensures { λ _. ⌜ cols (now (copies .exit)) (now (scratch .exit)) ≡ cellsRun count (now (piece .entry)) (cols (now (copies .entry)) (now (scratch .entry))) ⌝ }
+{
+    let mut i = 0;
+    while i < piece.len() {
+        place_cell(count + i as u64, Variable(piece[i]), copies, scratch);
+        i = i + 1;
+    }
+}

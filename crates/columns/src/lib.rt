@@ -1,0 +1,11 @@
+// 01, 'Columns by pieces': constant, copy and table columns, given in pieces.
+mod cells;
+mod finishing;
+mod gates;
+pub mod intake;
+mod opening;
+mod records;
+mod rows;
+mod s_words;
+mod tables;
+pub mod variable;

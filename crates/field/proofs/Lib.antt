@@ -1,0 +1,3 @@
+-- Laws that only the proofs of this crate use.
+pub mod Product
+pub mod Wide

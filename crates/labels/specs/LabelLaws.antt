@@ -1,0 +1,227 @@
+-- What the layers above use of labels.
+--
+-- Main definition: `DistinctLabels` (below p, nonzero, pairwise distinct).
+-- Main statements: `domain-whole` (w ^ N is 1); `distinct-labels`, for any list of representatives that are `Cosets` of base; `search-cosets` (01's search gives such a
+-- list); for the words that `labelsWritten` puts down: `written-is`, `written-refused`, `written-length`, `written-label`, `written-rest`, `written-distinct`.
+use mathlib.Core.Path.{_≡_, sym, ap, _∙_, subst}
+use mathlib.Core.Logic.{_≢_}
+use mathlib.Core.Bool.{true}
+use mathlib.Core.List.{List, _++_}
+use Prim.Native.Nat.{ℕ, _+_, _-_, _*_, _/_, _%_, _^_, _≤_, _<_}
+use native.Mathlib.Nat.{mod-lt, div-add-mod, div-lt-iff-lt-mul}
+use native.Mathlib.Decide.{ℕ-discrete, decLt}
+use native.Mathlib.Omega.{arith}
+use lib.Dec.{leb}
+use lib.ListN.{length, getD, drop, replicate, length-append, length-drop, List·getD-append}
+use lib.Seq.{getD-append-add, getD-drop}
+use borrow.Author.Tests.{lt-ltb, le-leb, eq-eqb, ne-eqb, leb-true}
+use Rattle.base.specs.Pick.{pick, pick-zero}
+use Rattle.base.specs.Exponent.{exponent}
+use Rattle.base.specs.Tables.{table, table-length, table-at}
+use Rattle.base.specs.Modular.{mul-mod}
+use Rattle.base.specs.Roots.{Root, root-whole}
+use Rattle.base.specs.Cosets.{Cosets, coset-apart, coset-nonzero}
+use Rattle.field.specs.Field.{p, fpow}
+use Rattle.field.specs.FieldLaws.{domain-root, fmul-below}
+use Rattle.labels.specs.Refusals.{outOfRange, candidatesReachP, bufferTooShort}
+use Rattle.labels.specs.Ranges.{rangesFit, Ranges, ranges-fit, some-row, mostColumns}
+use Rattle.labels.specs.Labels.{domainGenerator, found, searchNumber, padded, representativesNumber, representativesOf, labelOf, labelNumber, labelAnswer, fillNumber, labelsWritten}
+use Rattle.labels.specs.Search.{found-chosen}
+
+-- labels at the first m words of a list
+pub record DistinctLabels (m : ℕ) (labels : List ℕ) : Type 0 where
+  pub below : (i : ℕ) → i < m → getD labels i 0 < p
+  pub nonzero : (i : ℕ) → i < m → getD labels i 0 ≢ 0
+  pub apart : (i j : ℕ) → i < m → j < m → getD labels i 0 ≡ getD labels j 0 → i ≡ j
+
+generator-root : (n c : ℕ) → Ranges n c → Root p (exponent n) (domainGenerator n)
+unfolding domainGenerator
+generator-root n c r = domain-root (exponent n) (omega (arith, r .low))
+
+-- w ^ N is 1
+pub domain-whole : (n c : ℕ) → Ranges n c → fpow (domainGenerator n) n ≡ 1
+unfolding fpow
+domain-whole n c r = rw (r .power) at (root-whole p (omega arith) (exponent n) (domainGenerator n) (generator-root n c r))
+
+-- a label as a product with a plain power
+label-product : (n : ℕ) (reps : List ℕ) (cell : ℕ) → labelOf n reps cell ≡ getD reps (cell / n) 0 * domainGenerator n ^ (cell % n) % p
+unfolding labelOf fpow
+label-product n reps cell = mul-mod (getD reps (cell / n) 0) (domainGenerator n ^ (cell % n)) p
+
+pub label-below : (n : ℕ) (reps : List ℕ) (cell : ℕ) → labelOf n reps cell < p
+unfolding labelOf
+label-below n reps cell = fmul-below (getD reps (cell / n) 0) (fpow (domainGenerator n) (cell % n))
+
+-- the representatives of a list, by column
+abbrev pub columnRep : List ℕ → ℕ → ℕ
+columnRep reps i = getD reps i 0
+
+module _ (n c : ℕ) (r : Ranges n c) (reps : List ℕ) (cosets : Cosets p n c (columnRep reps)) where
+  cosets' : Cosets p (2 ^ exponent n) c (columnRep reps)
+  cosets' = subst (λ (m : ℕ). Cosets p m c (columnRep reps)) (sym (r .power)) cosets
+
+  column-of : (i : ℕ) → i < c * n → i / n < c
+  column-of i h = div-lt-iff-lt-mul (some-row n c r) .1 h
+
+  row-of : (i : ℕ) → i % n < 2 ^ exponent n
+  row-of i = rw (r .power) (mod-lt i (some-row n c r))
+
+  root : Root p (exponent n) (domainGenerator n)
+  root = generator-root n c r
+
+  pub label-nonzero : (i : ℕ) → i < c * n → labelOf n reps i ≢ 0
+  label-nonzero i h q =
+      coset-nonzero p (omega arith) (exponent n) (domainGenerator n) root c (columnRep reps) cosets'
+      (i / n) (i % n) (column-of i h) (row-of i) (sym (label-product n reps i) ∙ q)
+
+  pub label-apart : (i j : ℕ) → i < c * n → j < c * n → labelOf n reps i ≡ labelOf n reps j → i ≡ j
+  label-apart i j hi hj q =
+      let e = sym (label-product n reps i) ∙ q ∙ label-product n reps j in
+      let d = coset-apart p (omega arith) (exponent n) (domainGenerator n) root c (columnRep reps) cosets'
+      (i / n) (j / n) (i % n) (j % n) (column-of i hi) (column-of j hj) (row-of i) (row-of j) e in
+      sym (div-add-mod i n) ∙ rw (d .0, d .1) (div-add-mod j n)
+
+  -- a list that begins with the labels of all cells
+  pub distinct-labels : (labels : List ℕ) → ((i : ℕ) → i < c * n → getD labels i 0 ≡ labelOf n reps i) → DistinctLabels (c * n) labels
+  distinct-labels labels at =
+      record {
+        below = λ i h. rw (at i h) (label-below n reps i);
+        nonzero = λ i h q. label-nonzero i h (sym (at i h) ∙ q);
+        apart = λ i j h l q. label-apart i j h l (sym (at i h) ∙ q ∙ at j l);
+      }
+
+search-enough : (n c : ℕ) → searchNumber n c ≡ 0 → c ≤ length (found n c .values)
+unfolding searchNumber
+search-enough n c z = go (decLt (length (found n c .values)) c)
+  where
+    go : Dec (length (found n c .values) < c) → c ≤ length (found n c .values)
+    go (yes a) = let e : candidatesReachP ≡ 0 = rw (lt-ltb (length (found n c .values)) c a) at z in absurd (omega arith)
+    go (no a) = omega arith
+
+-- what an accepted search gives
+pub record AcceptedSearch (n c : ℕ) : Type 0 where
+  pub ranges : Ranges n c
+  pub enough : c ≤ length (found n c .values)
+  pub answer : representativesOf n c ≡ padded (found n c .values)
+
+pub accepted-search : (n c : ℕ) → representativesNumber n c ≡ 0 → AcceptedSearch n c
+unfolding representativesNumber representativesOf
+accepted-search n c z =
+    let q = pick-zero (rangesFit n c) (searchNumber n c) outOfRange (omega arith) z in
+    record {
+      ranges = ranges-fit n c (q .0);
+      enough = search-enough n c (q .1);
+      answer = rw (eq-eqb (pick (rangesFit n c) (searchNumber n c) outOfRange) 0 z);
+    }
+
+-- the word of a column that has one
+padded-at : (xs : List ℕ) (i : ℕ) → i < length xs → getD (padded xs) i 0 ≡ getD xs i 0
+padded-at xs i h = List·getD-append xs (replicate (mostColumns - length xs) 0) 0 i h
+
+module _ (n c : ℕ) (z : representativesNumber n c ≡ 0) where
+  rep-at : (i : ℕ) → i < c → getD (representativesOf n c) i 0 ≡ getD (found n c .values) i 0
+  rep-at i h =
+      let a = accepted-search n c z in
+      ap (λ (l : List ℕ). getD l i 0) (a .answer) ∙ padded-at (found n c .values) i (omega (arith, a .enough))
+
+  -- column 0 has representative 1
+  pub column-zero : getD (representativesOf n c) 0 0 ≡ 1
+  column-zero = rep-at 0 (accepted-search n c z .ranges .some-column) ∙ found-chosen n c .first
+
+  -- 01's rule gives representatives of different cosets
+  pub search-cosets : Cosets p n c (columnRep (representativesOf n c))
+  unfolding fpow
+  search-cosets =
+      let a = accepted-search n c z in
+      let f = found-chosen n c in
+      record {
+        units = λ i h. rw (rep-at i h) (f .unit i (omega (arith, a .enough)));
+        apart = λ i j h l q.
+            f .apart i j (omega (arith, a .enough)) (omega (arith, a .enough))
+            (f .power i (omega (arith, a .enough)) ∙ rw (rep-at i h, rep-at j l) at q ∙ sym (f .power j (omega (arith, a .enough))));
+      }
+
+-- ---- a label asked for by itself
+module _ (n c cell : ℕ) where
+  pub label-number : rangesFit n c ≡ true → cell < c * n → labelNumber n c cell ≡ representativesNumber n c
+  unfolding labelNumber representativesNumber
+  label-number t l = rw (t, lt-ltb cell (c * n) l)
+
+  pub label-accepted : labelNumber n c cell ≡ 0 → labelAnswer n c cell ≡ labelOf n (representativesOf n c) cell
+  unfolding labelAnswer
+  label-accepted z = rw (eq-eqb (labelNumber n c cell) 0 z)
+
+  pub label-refused : labelNumber n c cell ≢ 0 → labelAnswer n c cell ≡ 0
+  unfolding labelAnswer
+  label-refused d = rw (ne-eqb (labelNumber n c cell) 0 d)
+
+-- ---- the words that filling puts down
+module _ (n c : ℕ) (copies : List ℕ) where
+  pub fill-number : rangesFit n c ≡ true → c * n ≤ length copies → fillNumber n c copies ≡ representativesNumber n c
+  unfolding fillNumber representativesNumber
+  fill-number t l = rw (t, le-leb (c * n) (length copies) l)
+
+  pub written-refused : fillNumber n c copies ≢ 0 → labelsWritten n c copies ≡ copies
+  unfolding labelsWritten
+  written-refused h = rw (ne-eqb (fillNumber n c copies) 0 h)
+
+  module _ (fine : fillNumber n c copies ≡ 0) where
+    fill-tests : (rangesFit n c ≡ true) × (c * n ≤ length copies) × (searchNumber n c ≡ 0)
+    unfolding fillNumber
+    fill-tests =
+        let q = pick-zero (rangesFit n c) (pick (leb (c * n) (length copies)) (searchNumber n c) bufferTooShort) outOfRange (omega arith) fine in
+        let t = pick-zero (leb (c * n) (length copies)) (searchNumber n c) bufferTooShort (omega arith) (q .1) in
+        (q .0, leb-true (c * n) (length copies) (t .0), t .1)
+
+    -- an accepted filling has its representatives
+    pub fill-search : representativesNumber n c ≡ 0
+    unfolding representativesNumber
+    fill-search = rw (fill-tests .0) (fill-tests .2)
+
+    pub fill-room : c * n ≤ length copies
+    fill-room = fill-tests .1
+
+    pub written-is : labelsWritten n c copies ≡ table (c * n) (labelOf n (representativesOf n c)) ++ drop (c * n) copies
+    unfolding labelsWritten
+    written-is = rw (eq-eqb (fillNumber n c copies) 0 fine)
+
+    pub written-label : (i : ℕ) → i < c * n → getD (labelsWritten n c copies) i 0 ≡ labelOf n (representativesOf n c) i
+    written-label i h =
+        let t = table (c * n) (labelOf n (representativesOf n c)) in
+        ap (λ (l : List ℕ). getD l i 0) written-is
+        ∙ List·getD-append t (drop (c * n) copies) 0 i (omega (arith, table-length (c * n) (labelOf n (representativesOf n c))))
+        ∙ table-at (c * n) (labelOf n (representativesOf n c)) i h
+
+    pub written-distinct : DistinctLabels (c * n) (labelsWritten n c copies)
+    written-distinct =
+        distinct-labels n c (accepted-search n c fill-search .ranges) (representativesOf n c) (search-cosets n c fill-search) (labelsWritten n c copies) written-label
+
+    accepted-length : length (labelsWritten n c copies) ≡ length copies
+    accepted-length = rw (written-is, length-append, table-length, length-drop) (omega (arith, fill-room))
+
+    accepted-rest : (i : ℕ) → c * n ≤ i → getD (labelsWritten n c copies) i 0 ≡ getD copies i 0
+    accepted-rest i h =
+        let t = table (c * n) (labelOf n (representativesOf n c)) in
+        let e : i ≡ length t + (i - c * n) = omega (arith, table-length (c * n) (labelOf n (representativesOf n c))) in
+        let q : c * n + (i - c * n) ≡ i = omega arith in
+        ap (λ (l : List ℕ). getD l i 0) written-is
+        ∙ ap (λ (j : ℕ). getD (t ++ drop (c * n) copies) j 0) e
+        ∙ getD-append-add t (drop (c * n) copies) (i - c * n) 0
+        ∙ getD-drop (c * n) copies (i - c * n) 0
+        ∙ ap (λ (j : ℕ). getD copies j 0) q
+
+  -- accepted or refused, the length stays
+  pub written-length : length (labelsWritten n c copies) ≡ length copies
+  written-length = go (ℕ-discrete (fillNumber n c copies) 0)
+    where
+      go : Dec (fillNumber n c copies ≡ 0) → length (labelsWritten n c copies) ≡ length copies
+      go (yes z) = accepted-length z
+      go (no d) = ap length (written-refused d)
+
+  -- accepted or refused, the words past the columns stay
+  pub written-rest : (i : ℕ) → c * n ≤ i → getD (labelsWritten n c copies) i 0 ≡ getD copies i 0
+  written-rest i h = go (ℕ-discrete (fillNumber n c copies) 0)
+    where
+      go : Dec (fillNumber n c copies ≡ 0) → getD (labelsWritten n c copies) i 0 ≡ getD copies i 0
+      go (yes z) = accepted-rest z i h
+      go (no d) = ap (λ (l : List ℕ). getD l i 0) (written-refused d)

@@ -1,0 +1,2 @@
+-- What replaying is.
+pub mod Replay

@@ -1,0 +1,17 @@
+//! A small model of document 01, the authority on the setup stage: its rules in
+//! plain, slow Rust, one module for each heading. Written from 01 and from the
+//! project's readings of it, and from no other code.
+//!
+//! A refusal is its number: `Err(number)`. A refused call writes no word and the
+//! state given stands.
+pub mod columns;
+pub mod field;
+pub mod gates;
+pub mod labels;
+pub mod listing;
+pub mod plan;
+pub mod search;
+
+pub use columns::{cells, finish, open, rows, s_words, tables, State};
+pub use listing::{program, run_listing};
+pub use plan::{path, plan, table_id, Plan};

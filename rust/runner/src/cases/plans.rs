@@ -1,0 +1,114 @@
+use super::Checks;
+use crate::made_up::{balanced_65, chain};
+use model::field::{add, is_non_residue, mul, pow, sub, P};
+use model::labels::{label, representatives};
+use model::plan::Plan;
+use model::{path, plan, table_id};
+
+pub fn field(c: &mut Checks) {
+    c.same("P1", add(P - 1, P - 1), P - 2);
+    c.same("P2", mul(1 << 32, 1 << 32), 4294967295);
+    c.same("P3", mul(1 << 48, 1 << 48), P - 1);
+    c.same("a sum that does not wrap", add(P - 1, 1), 0);
+    c.same("words read modulo p", add(u64::MAX, u64::MAX), 8589934588);
+    c.same("0 - 1", sub(0, 1), P - 1);
+    c.same("0 - p", sub(0, P), 0);
+    c.same("the exponent is a plain count", pow(2, P), 2);
+    c.same("0 to the power 0", pow(0, 0), 1);
+    c.same("p to the power 0", pow(P, 0), 1);
+    c.same("residues", [0, 1, P, 7, P + 7].map(is_non_residue), [false, false, false, true, true]);
+}
+
+pub fn labels(c: &mut Checks) {
+    c.same("P4", representatives(2, 5), Ok(vec![1, 7, 11, 13, 14]));
+    c.same("column 23 at N = 32", representatives(32, 24).unwrap()[23], 56);
+    c.same(
+        "column 23 at N = 64: 56 is in the coset of 7",
+        representatives(64, 24).unwrap()[23],
+        57,
+    );
+    c.same("one column", representatives(65536, 1), Ok(vec![1]));
+    for (n, columns) in [(0, 1), (3, 1), (131072, 1), (1, 0), (1, 65)] {
+        c.same("range of N and C", representatives(n, columns), Err(1));
+        c.same("range of N and C", label(n, columns, 0), Err(1));
+    }
+    c.same("a cell outside", label(1, 1, 1), Err(1));
+    c.same("the last cell", label(2, 2, 3), Ok(P - 7));
+}
+
+fn paths(mode: u64, a: u64, gates: &[u64]) -> Result<(Vec<(u64, u64)>, [u64; 3]), u64> {
+    let (w, flag) = if mode == 0 { (0, 0) } else { (1, 1) };
+    let plan = plan([1, 1, a, 1, 0, mode, w, flag], gates)?;
+    let all = (0..plan.gate_count).map(|gate| path(&plan, gate).unwrap()).collect();
+    Ok((all, [plan.d, plan.k, plan.f]))
+}
+
+pub fn planning(c: &mut Checks) {
+    let lookup = model::gates::Gate { index: 0, kind: 3, degree: 0, constants: 0 };
+    c.same("P5", [0, 2, 5].map(|depth| lookup.degree_at(depth)), [2, 2, 5]);
+    let p6 = [0, 2, 1, 0, 1, 0, 1, 0, 0];
+    c.same("P6", paths(0, 1, &p6), Ok((vec![(1, 1), (2, 2), (0, 2)], [3, 2, 2])));
+    c.same("P10", paths(0, 0, &[1, 0, 0]), Ok((vec![(0, 0)], [0, 0, 1])));
+    c.same("64 gates at target 8", paths(0, 0, &[0, 2, 0].repeat(64)).map(|x| x.1), Ok([8, 6, 8]));
+    c.same("65 gates", paths(0, 0, &[0, 2, 0].repeat(65)), Err(8));
+    let both = Ok((vec![(0, 1), (1, 1)], [2, 1, 1]));
+    c.same("the lookup gate sorts by its degree word", paths(1, 0, &[3, 0, 0, 0, 1, 0]), both);
+    let one_placed = Ok((vec![(0, 0), (0, 0)], [64, 0, 64]));
+    c.same("one placed gate of two", paths(0, 0, &[0, 64, 0, 2, 0, 0]), one_placed);
+    for (name, mode, a, gates, number) in [
+        ("4 before 5", 0, 0, &[3, 0, 0, 0, 1, 0, 4, 0, 0][..], 4),
+        ("a lookup record with a constant", 2, 1, &[3, 0, 1, 0, 1, 0], 4),
+        ("kind 3 in mode 0", 0, 0, &[0, 1, 0, 3, 0, 0], 5),
+        ("kind 3 in mode 3", 3, 0, &[3, 0, 0, 0, 1, 0], 5),
+        ("two of kind 3", 1, 0, &[3, 0, 0, 3, 0, 0], 5),
+        ("a single gate in mode 3", 3, 0, &[0, 1, 0], 5),
+        ("no kind 0 or 3", 0, 0, &[1, 0, 0, 2, 0, 0], 6),
+        ("mode 2 with A = 0", 2, 0, &[3, 0, 0, 0, 1, 0], 7),
+        ("a lone gate's constants", 0, 2, &[0, 1, 3], 7),
+        ("no gate", 0, 0, &[], 3),
+        ("four words", 0, 0, &[1, 0, 0, 1], 3),
+    ] {
+        c.same(name, paths(mode, a, gates), Err(number));
+    }
+    c.same("mode 4, S = 0 and flag 0", plan([1, 1, 0, 0, 0, 4, 1, 0], &[]), Err(1));
+    c.same("mode 4 and flag 0", plan([1, 1, 0, 1, 0, 4, 1, 0], &[]), Err(2));
+    c.same("mode 5", plan([1, 1, 0, 0, 0, 5, 1, 1], &[1, 0, 0]), Err(1));
+    let good = plan([1, 1, 0, 0, 0, 0, 0, 0], &[1, 0, 0]).unwrap();
+    c.same("gate not listed", path(&good, 1), Err(12));
+    c.same("gate not listed", path(&good, u64::MAX), Err(12));
+}
+
+pub fn made_up(c: &mut Checks) {
+    c.same("a plan of zeros", path(&Plan::zero(), 0), Err(19));
+    c.same("19 before 12", path(&Plan::zero(), 9), Err(19));
+    c.same("a plan of zeros", table_id(&Plan::zero()), Err(19));
+    c.same("a list that the search refuses", path(&balanced_65(), 0).map(|x| x.1), Ok(7));
+    c.same("a leaf at depth 31", path(&chain(32), 31), Ok((0, 31)));
+    c.same("a leaf at depth 32", path(&chain(33), 0), Err(19));
+    let lone = plan([1, 1, 0, 0, 0, 0, 0, 0], &[1, 0, 0]).unwrap();
+    let with_spare = |spare: [u64; 3], count: u64| {
+        let mut plan = lone.clone();
+        plan.node_count = count;
+        plan.nodes[1] = spare;
+        path(&plan, 0)
+    };
+    c.same("a spare leaf", with_spare([0, 0, 0], 2), Ok((0, 0)));
+    c.same("a spare fork with bad children", with_spare([0, 9, 0], 2), Err(19));
+    c.same("a spare fork that is not counted", with_spare([0, 9, 0], 1), Ok((0, 0)));
+    c.same("nodes past the slots", with_spare([0, 0, 0], 256), Err(19));
+    c.same("no node", with_spare([0, 0, 0], 0), Err(19));
+    let two = plan([2, 1, 0, 0, 0, 0, 0, 0], &[0, 1, 0, 1, 0, 0]).unwrap();
+    let with_root = |root: [u64; 3]| {
+        let mut plan = two.clone();
+        plan.nodes[0] = root;
+        path(&plan, 0)
+    };
+    c.same("a node reached twice", with_root([1, 1, 0]), Err(19));
+    c.same("a child that is its parent", with_root([0, 1, 0]), Err(19));
+    c.same("a child past the nodes", with_root([1, 3, 0]), Err(19));
+    for change in [[1, 0, 0], [0, 1, 0], [0, 0, 1]] {
+        let mut plan = two.clone();
+        (plan.d, plan.k, plan.f) = (plan.d + change[0], plan.k + change[1], plan.f + change[2]);
+        c.same("D, K or F not the tree's", path(&plan, 0), Err(19));
+    }
+}
