@@ -16,7 +16,7 @@ use Rattle.base.specs.Exponent.{exponent, exponent-least}
 use Rattle.base.specs.Pick.{both, both-true, pick, pick-yes}
 use Rattle.selector.specs.Gates.{kindOf, placedGates}
 use Rattle.selector.specs.MadeUp.{allListed, asWanted, justOnce, linkedAt, linkedFrom, mostLevels, mostNodes, nodesFit, numbersAre, numbersFit, treeFits, wanted}
-use Rattle.selector.specs.NodeLaws.{Agrees, left-agrees, mid, mid-room, own-tree, put-left, put-right, right-agrees, root-left, root-right, self-agrees, size-some}
+use Rattle.selector.specs.NodeLaws.{Agrees, left-agrees, mid, mid-room, own-tree, put-left, put-right, right-agrees, root-left, root-right, self-agrees, size-some, tree-shallow}
 use Rattle.selector.specs.Nodes.{laid, leftAt, nodeWords, rightAt, treeAt}
 use Rattle.selector.specs.RecordLaws.{top-constants}
 use Rattle.selector.specs.Refusals.{Sound}
@@ -198,6 +198,7 @@ pub record Sturdy (x : ℕ) (gs : List ℕ) (m : ℕ) (ns : List ℕ) (n d k f :
   pub few : n ≤ mostNodes
   pub linked : Links ns n
   pub is : treeAt mostLevels ns 0 ≡ some tree
+  pub deep : depth tree ≤ 31
   pub listed : allListed m tree ≡ true
   pub once : (g : ℕ) → g < m → standing g tree ≡ wanted gs m g
   pub most : k ≡ treeK x gs tree
@@ -228,6 +229,7 @@ module _ (x : ℕ) (gs : List ℕ) (m : ℕ) (ns : List ℕ) (n d k f : ℕ) whe
         few = b;
         linked = l;
         is = e;
+        deep = omega (arith, tree-shallow mostLevels ns 0 u e);
         listed = and-left (allListed m u) _ j;
         once = λ g h. each-wanted gs m (λ (y : ℕ). standing y u) m 0 g (and-right (allListed m u) _ j) (omega arith) (omega arith);
         most = eqb-true k (treeK x gs u) (and-left (eqb k (treeK x gs u)) _ w);
