@@ -12,10 +12,10 @@ use Rattle.selector.specs.Nodes.{leftAt, rightAt, treeAt}
 use Rattle.selector.specs.Search.{factor, treeD, treeK}
 use Rattle.selector.specs.Tree.{Tree, fork, leaf, standing}
 
--- "a child not after its parent or past the nodes": node i is a leaf, or both children come after it and within the n nodes
+-- "a child not after its parent or past the nodes": node i is a leaf, which has no child words, or both children come after it and within the n nodes
 unfoldable pub linkedAt : List ℕ → ℕ → ℕ → Bool
 linkedAt ns n i =
-    pick (eqb (leftAt ns i) 0) true
+    pick (eqb (leftAt ns i) 0) (eqb (rightAt ns i) 0)
     (pick (ltb i (leftAt ns i)) (pick (ltb (leftAt ns i) n) (pick (ltb i (rightAt ns i)) (ltb (rightAt ns i) n) false) false) false)
 
 -- the k nodes from i on

@@ -16,7 +16,7 @@ use Rattle.base.specs.Exponent.{exponent, exponent-least}
 use Rattle.base.specs.Pick.{both, both-true, pick, pick-yes}
 use Rattle.selector.specs.Gates.{kindOf, placedGates}
 use Rattle.selector.specs.MadeUp.{allListed, asWanted, justOnce, linkedAt, linkedFrom, mostLevels, mostNodes, nodesFit, numbersAre, numbersFit, treeFits, wanted}
-use Rattle.selector.specs.NodeLaws.{Agrees, left-agrees, mid, mid-room, own-tree, put-left, right-agrees, root-left, root-right, self-agrees, size-some}
+use Rattle.selector.specs.NodeLaws.{Agrees, left-agrees, mid, mid-room, own-tree, put-left, put-right, right-agrees, root-left, root-right, self-agrees, size-some, tree-shallow}
 use Rattle.selector.specs.Nodes.{laid, leftAt, nodeWords, rightAt, treeAt}
 use Rattle.selector.specs.RecordLaws.{top-constants}
 use Rattle.selector.specs.Refusals.{Sound}
@@ -48,6 +48,10 @@ module _ (ns : List ℕ) (n : ℕ) where
   unfolding linkedAt
   linked-in i e h k l = rw (ne-eqb (leftAt ns i) 0 e, lt-ltb i (leftAt ns i) h, lt-ltb (leftAt ns i) n k, lt-ltb i (rightAt ns i) l)
 
+  pub linked-leaf : (i : ℕ) → leftAt ns i ≡ 0 → linkedAt ns n i ≡ eqb (rightAt ns i) 0
+  unfolding linkedAt
+  linked-leaf i e = rw (eq-eqb (leftAt ns i) 0 e)
+
   pub linked-end : (k i : ℕ) → k ≤ 0 → linkedFrom k ns n i ≡ true
   unfolding linkedFrom
   linked-end k i h = let e : k ≡ 0 = omega arith in rw e
@@ -72,16 +76,17 @@ module _ (ns : List ℕ) (n : ℕ) where
   pub links : linkedFrom n ns n 0 ≡ true → Links ns n
   links e i h k = within-by i (each-linked n 0 i e (omega arith) (omega arith)) k
 
-leaf-linked : (ms : List ℕ) (n k : ℕ) → leftAt ms k ≡ 0 → linkedAt ms n k ≡ true
+leaf-linked : (ms : List ℕ) (n k : ℕ) → leftAt ms k ≡ 0 → rightAt ms k ≡ 0 → linkedAt ms n k ≡ true
 unfolding linkedAt
-leaf-linked ms n k e = rw (eq-eqb (leftAt ms k) 0 e)
+leaf-linked ms n k e f = rw (eq-eqb (leftAt ms k) 0 e, eq-eqb (rightAt ms k) 0 f)
 
 pub laid-linked : (t : Tree) (i n : ℕ) (ns ms : List ℕ) → (i + size t) * 3 ≤ length ns → i + size t ≤ n → Agrees t i ns ms
     → (k : ℕ) → i ≤ k → k < i + size t → linkedAt ms n k ≡ true
 unfolding laid
 laid-linked (leaf g) i n ns ms room h e k a b =
     let q : k ≡ i = omega arith in
-    rw q (leaf-linked ms n i (e i (omega arith) (omega arith) .left ∙ put-left ns i 0 0 g (omega arith)))
+    let w = e i (omega arith) (omega arith) in
+    rw q (leaf-linked ms n i (w .left ∙ put-left ns i 0 0 g (omega arith)) (w .right ∙ put-right ns i 0 0 g (omega arith)))
 laid-linked (fork l r) i n ns ms room h e k a b =
     by (ℕ-discrete k i) (decLt k (i + 1 + size l))
     (laid-linked l (i + 1) n ns ms (omega arith) (omega arith) (left-agrees l r i ns ms room e) k)
@@ -193,6 +198,7 @@ pub record Sturdy (x : ℕ) (gs : List ℕ) (m : ℕ) (ns : List ℕ) (n d k f :
   pub few : n ≤ mostNodes
   pub linked : Links ns n
   pub is : treeAt mostLevels ns 0 ≡ some tree
+  pub deep : depth tree ≤ 31
   pub listed : allListed m tree ≡ true
   pub once : (g : ℕ) → g < m → standing g tree ≡ wanted gs m g
   pub most : k ≡ treeK x gs tree
@@ -223,6 +229,7 @@ module _ (x : ℕ) (gs : List ℕ) (m : ℕ) (ns : List ℕ) (n d k f : ℕ) whe
         few = b;
         linked = l;
         is = e;
+        deep = omega (arith, tree-shallow mostLevels ns 0 u e);
         listed = and-left (allListed m u) _ j;
         once = λ g h. each-wanted gs m (λ (y : ℕ). standing y u) m 0 g (and-right (allListed m u) _ j) (omega arith) (omega arith);
         most = eqb-true k (treeK x gs u) (and-left (eqb k (treeK x gs u)) _ w);

@@ -1,14 +1,17 @@
 -- Node words: what a written node changes, and that the words of a tree in preorder hold the tree.
 --
--- Main statements: `put-left`, `put-left-other` and the like, `laid-length`, `laid-holds`, `own-holds`, `decoded`, `own-tree` (the tree is read back).
+-- Main statements: `put-left`, `put-left-other` and the like, `laid-length`, `laid-holds`, `own-holds`, `decoded`, `own-tree` (the tree is read back), `tree-shallow`.
 use Prim.Native.Nat.{_*_, _+_, _-_, _<_, _≤_, suc, zero, ℕ}
 use borrow.Author.Tests.{eq-eqb, ne-eqb}
+use lib.Dec.{eqb}
 use lib.ListN.{length, length-set, set}
 use lib.Seq.{getD-set-other, getD-set-same}
+use mathlib.Core.Bool.{Bool, false, true}
 use mathlib.Core.List.{List}
-use mathlib.Core.Option.{some}
-use mathlib.Core.Path.{_∙_, _≡_, ap, refl}
+use mathlib.Core.Option.{Option, none, some}
+use mathlib.Core.Path.{_∙_, _≡_, ap, refl, subst}
 use native.Mathlib.Omega.{arith}
+use Rattle.base.specs.Pick.{pick}
 use Rattle.selector.specs.Nodes.{Holds, bothSides, gateAt, laid, leftAt, put, rightAt, treeAt}
 use Rattle.selector.specs.Tree.{Tree, depth, fork, leaf, size}
 
@@ -158,3 +161,22 @@ module _ (ns : List ℕ) (i : ℕ) where
   unfolding treeAt
   at-fork zero h e = absurd (omega arith)
   at-fork (suc f) h e = let q : suc f - 1 ≡ f = omega arith in rw (q, ne-eqb (leftAt ns i) 0 e)
+
+-- a tree that is read in f levels is less than f deep
+both-shallow : (q s : Option Tree) (f : ℕ) (t : Tree) → ((l : Tree) → q ≡ some l → depth l < f) → ((r : Tree) → s ≡ some r → depth r < f)
+    → bothSides q s ≡ some t → depth t < suc f
+both-shallow (some l) (some r) f t x y e =
+    let k : fork l r ≡ t = cc in
+    subst (λ (u : Tree). depth u < suc f) k (omega (arith, x l refl, y r refl))
+both-shallow (some l) none f t x y e = let z : _≡_ {A = ℕ} 0 1 = cc in absurd (omega arith)
+both-shallow none s f t x y e = let z : _≡_ {A = ℕ} 0 1 = cc in absurd (omega arith)
+
+pub tree-shallow : (f : ℕ) (ns : List ℕ) (i : ℕ) (t : Tree) → treeAt f ns i ≡ some t → depth t < f
+unfolding treeAt
+tree-shallow zero ns i t e = let z : _≡_ {A = ℕ} 0 1 = cc in absurd (omega arith)
+tree-shallow (suc f) ns i t e = go (eqb (leftAt ns i) 0) e (tree-shallow f ns (leftAt ns i)) (tree-shallow f ns (rightAt ns i))
+  where
+    go : (b : Bool) → pick b (some (leaf (gateAt ns i))) (bothSides (treeAt f ns (leftAt ns i)) (treeAt f ns (rightAt ns i))) ≡ some t
+        → ((l : Tree) → treeAt f ns (leftAt ns i) ≡ some l → depth l < f) → ((r : Tree) → treeAt f ns (rightAt ns i) ≡ some r → depth r < f) → depth t < suc f
+    go true k x y = let q : leaf (gateAt ns i) ≡ t = cc in subst (λ (u : Tree). depth u < suc f) q (omega arith)
+    go false k x y = both-shallow (treeAt f ns (leftAt ns i)) (treeAt f ns (rightAt ns i)) f t x y k

@@ -1,5 +1,5 @@
 -- 01, 'Box tree: nodes in a flat array, children after parents'. A node is three words: left, right, gate; a left word 0 is a leaf, since node 0 is
--- nobody's child. The plan's node words are its tree in preorder over zeros.
+-- nobody's child; a leaf's right word is 0 too. The plan's node words are its tree in preorder over zeros.
 --
 -- Main definitions: `laid`, `treeAt`, `Holds`.
 use Prim.Native.Nat.{_*_, _+_, _<_, suc, zero, ℕ}

@@ -37,10 +37,6 @@ pick-test true = refl
 pick-test false = refl
 
 module _ (gs : List ℕ) (g d x t c : ℕ) where
-  pub stand-yes : degreeAt gs g d ≤ t → constantsOf x gs g + d ≤ c → mayStand x gs t c g d ≡ true
-  unfolding mayStand
-  stand-yes h k = simp (le-leb _ _ h, le-leb _ _ k)
-
   pub stand-far : t < degreeAt gs g d → mayStand x gs t c g d ≡ false
   unfolding mayStand
   stand-far h = simp (lt-leb _ _ h)

@@ -6,10 +6,10 @@ ghost use Rattle.selector.specs.Gates.{gateWords, constantsOf, degreeAt, degree
 ghost use Rattle.selector.specs.Search.{factor};
 
 // "A gate is three words: kind, degree, constants."
-pub const GATE_WORDS: usize = 3;
+pub(crate) const GATE_WORDS: usize = 3;
 
 // A gate's constants, where the lookup gate has `extra`.
-pub fn constants_of(gates: &[u64], gate: u64, extra: u64) -> u64
+pub(crate) fn constants_of(gates: &[u64], gate: u64, extra: u64) -> u64
     requires { ⌜ gate * gateWords + 2 < length (now gates) ⌝ }
     ensures { λ r. ⌜ r ≡ constantsOf extra (now (gates .entry)) gate ⌝ }
 {
@@ -21,7 +21,7 @@ pub fn constants_of(gates: &[u64], gate: u64, extra: u64) -> u64
 }
 
 // The Rust's degree_at_depth.
-pub fn degree_at_depth(gates: &[u64], gate: u64, depth: u64) -> u64
+pub(crate) fn degree_at_depth(gates: &[u64], gate: u64, depth: u64) -> u64
     requires { ⌜ (gate * gateWords + 2 < length (now gates)) × (depth < 1000) × (degreeOf (now gates) gate ≤ 64) ⌝ }
     ensures { λ r. ⌜ r ≡ degreeAt (now (gates .entry)) gate depth ⌝ }
 {
@@ -33,7 +33,7 @@ pub fn degree_at_depth(gates: &[u64], gate: u64, depth: u64) -> u64
 }
 
 // The smallest power of two not below the greater of 1 and degree - 1.
-pub fn factor_of(degree: u64) -> u64
+pub(crate) fn factor_of(degree: u64) -> u64
     requires { ⌜ degree ≤ 1024 ⌝ }
     ensures { λ r. ⌜ (r ≡ factor degree) × (r ≤ 1024) ⌝ }
 {

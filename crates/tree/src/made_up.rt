@@ -120,16 +120,16 @@ fn visit<'a>(
     one
 }
 
-// Whether a node is a leaf, or has both children behind it and within the nodes.
+// Whether a node is a leaf, without child words, or has both children behind it and within the nodes.
 fn linked_at(nodes: &[u64; 765], count: usize, at: usize) -> bool
     requires { ⌜ (at < count) × (count ≤ 255) ⌝ }
     ensures { λ r. ⌜ r ≡ linkedAt (now (nodes .entry)) count at ⌝ }
 {
     let left = nodes[at * 3] as usize;
-    if left == 0 {
-        return true;
-    }
     let right = nodes[at * 3 + 1] as usize;
+    if left == 0 {
+        return right == 0;
+    }
     if at < left {
         if left < count {
             if at < right {
@@ -198,7 +198,7 @@ fn numbers_fit(seen: Seen, d: u64, k: u64, f: u64) -> bool
 }
 
 // Whether the nodes are a tree of the placed gates, and D, K and F are its own.
-pub fn nodes_fit<'a>(
+pub(crate) fn nodes_fit<'a>(
     gates: &'a [u64],
     nodes: &'a [u64; 765],
     many: usize,

@@ -13,7 +13,7 @@ use crate::gates::factor_of;
 use crate::search::compute_placement;
 
 // Writes a node's three words.
-pub fn put_node(nodes: &mut [u64; 765], at: usize, left: u64, right: u64, gate: u64)
+pub(crate) fn put_node(nodes: &mut [u64; 765], at: usize, left: u64, right: u64, gate: u64)
     requires { ⌜ at < 255 ⌝ }
     ensures { λ _. ⌜ now (nodes .exit) ≡ put (now (nodes .entry)) at left right gate ⌝ }
 {
@@ -104,7 +104,7 @@ fn lay<'a>(
 }
 
 // The shape of a list of gates.
-pub fn shape_of(gates: &[u64], many: usize, extra: u64) -> Shape
+pub(crate) fn shape_of(gates: &[u64], many: usize, extra: u64) -> Shape
     requires { ⌜ Sound (now gates) many extra ⌝ }
     ensures { λ r. ⌜ r ≡ shapeOf extra (now (gates .entry)) (planTree extra (now (gates .entry)) many) ⌝ }
 {

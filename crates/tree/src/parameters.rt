@@ -85,7 +85,7 @@ impl Parameters {
     }
 
     // The refusal of the parameters, 1 or 2, or 0.
-    pub fn number(self) -> u64
+    pub(crate) fn number(self) -> u64
         ensures { λ r. ⌜ r ≡ parametersNumber self ⌝ }
     {
         let range = self.range_number();

@@ -16,7 +16,7 @@ pub struct Placement {
 }
 
 // The path from a node to a gate, at most `levels` deep.
-pub fn output_placement(
+pub(crate) fn output_placement(
     nodes: &[u64; 765],
     count: usize,
     at: usize,

@@ -75,7 +75,7 @@ impl Plan {
     }
 
     // The parameter words of a plan.
-    pub fn parameters(self) -> Parameters
+    pub(crate) fn parameters(self) -> Parameters
         ensures { λ r. ⌜ r ≡ parametersOf self ⌝ }
     {
         let lookup = self.lookup;

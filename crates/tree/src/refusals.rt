@@ -8,7 +8,7 @@ use crate::gates::GATE_WORDS;
 use crate::gates::constants_of;
 
 // Three words each for 1 to 128 gates; else the refusal is 3.
-pub fn words_fit(gates: &[u64]) -> bool
+pub(crate) fn words_fit(gates: &[u64]) -> bool
     ensures { λ r. ⌜ r ≡ wordsFit (now (gates .entry)) ⌝ }
 {
     let many = gates.len() / GATE_WORDS;
@@ -166,7 +166,7 @@ fn constants_number(gates: &[u64], many: usize, extra: u64, allowed: u64) -> u64
 }
 
 // "Mode 2 gives the lookup gate one constant."
-pub fn extra_of(mode: u64) -> u64
+pub(crate) fn extra_of(mode: u64) -> u64
     ensures { λ r. ⌜ r ≡ extraOf mode ⌝ }
 {
     if mode == 2 {
@@ -176,7 +176,7 @@ pub fn extra_of(mode: u64) -> u64
 }
 
 // The refusals 4 to 7 of the first `many` records, the first that comes.
-pub fn gates_number(gates: &[u64], many: usize, mode: u64, allowed: u64) -> u64
+pub(crate) fn gates_number(gates: &[u64], many: usize, mode: u64, allowed: u64) -> u64
     requires { ⌜ (many * gateWords ≤ length (now gates)) × (0 < many) ⌝ }
     ensures { λ r. ⌜ r ≡ gatesNumber mode allowed (now (gates .entry)) many ⌝ }
 {

@@ -233,7 +233,12 @@ fn search(gates: &[u64], nodes: &mut [u64; 765], many: usize, extra: u64) -> usi
 }
 
 // The tree of a list of gates: a lone leaf for one gate, else what the search finds. The number of its nodes, or 0.
-pub fn compute_placement(gates: &[u64], nodes: &mut [u64; 765], many: usize, extra: u64) -> usize
+pub(crate) fn compute_placement(
+    gates: &[u64],
+    nodes: &mut [u64; 765],
+    many: usize,
+    extra: u64,
+) -> usize
     requires { ⌜ Sound (now gates) many extra ⌝ }
     requires { ⌜ length (now nodes) ≡ 765 ⌝ }
     ensures { λ r. ⌜ Stands many (planTree extra (now (gates .entry)) many) (now (nodes .exit)) r ⌝ }

@@ -34,7 +34,6 @@ visit-returns : (t : ℕ) → visit-lts.Need-returns (
 visit-returns t c =
     let s = c .before .before in
     let a = s .args in
-    let p = s .pre .1 in
     (visit-none (a .extra) (a .gates .now) (a .many) (a .nodes .now) (a .at) (a .level) (walk (a .marks .now) (a .seen)) (a .levels) (lost (walk (a .marks .now) (a .seen))) (c .if1 .taken) refl, omega arith)
 
 visit-mul-left : (t : ℕ) → visit-lts.Need-mul-left (
@@ -45,7 +44,6 @@ visit-mul-left : (t : ℕ) → visit-lts.Need-mul-left (
 ) (visit-at t) visit.Post
 visit-mul-left t c =
     let s = c .before .before in
-    let a = s .args in
     let p = s .pre .1 in
     omega (arith, p .1 .1)
 
@@ -57,7 +55,6 @@ visit-mul-left-2 : (t : ℕ) → visit-lts.Need-mul-left-2 (
 ) (visit-at t) visit.Post
 visit-mul-left-2 t c =
     let s = c .before .before in
-    let a = s .args in
     let p = s .pre .1 in
     omega (arith, p .1 .1)
 
@@ -69,7 +66,6 @@ visit-element-copy-out-left : (t : ℕ) → visit-lts.Need-element-copy-out-left
 ) (visit-at t) visit.Post
 visit-element-copy-out-left t c =
     let s = c .before .before in
-    let a = s .args in
     let p = s .pre .1 in
     omega (arith, p .1 .1)
 
@@ -81,7 +77,6 @@ visit-mul-meet : (t : ℕ) → visit-lts.Need-mul-meet (
 ) (visit-at t) visit.Post
 visit-mul-meet t c =
     let s = c .before .before .before .before .before in
-    let a = s .args in
     let p = s .pre .1 in
     omega (arith, p .1 .1)
 
@@ -93,7 +88,6 @@ visit-add-meet : (t : ℕ) → visit-lts.Need-add-meet (
 ) (visit-at t) visit.Post
 visit-add-meet t c =
     let s = c .before .before .before .before .before in
-    let a = s .args in
     let p = s .pre .1 in
     omega (arith, p .1 .1)
 
@@ -105,7 +99,6 @@ visit-mul-meet-2 : (t : ℕ) → visit-lts.Need-mul-meet-2 (
 ) (visit-at t) visit.Post
 visit-mul-meet-2 t c =
     let s = c .before .before .before .before .before in
-    let a = s .args in
     let p = s .pre .1 in
     omega (arith, p .1 .1)
 
@@ -117,7 +110,6 @@ visit-element-copy-out-meet : (t : ℕ) → visit-lts.Need-element-copy-out-meet
 ) (visit-at t) visit.Post
 visit-element-copy-out-meet t c =
     let s = c .before .before .before .before .before in
-    let a = s .args in
     let p = s .pre .1 in
     omega (arith, p .1 .1)
 
@@ -129,7 +121,6 @@ visit-meet-requires : (t : ℕ) → visit-lts.Need-meet-requires (
 ) (visit-at t) visit.Post
 visit-meet-requires t c κs =
     let s = c .before .before .before .before .before .before in
-    let a = s .args in
     let p = s .pre .1 in
     (p .0, omega (arith, p .1 .1))
 
@@ -142,7 +133,6 @@ visit-returns-2 : (t : ℕ) → visit-lts.Need-returns-2 (
 visit-returns-2 t c =
     let s = c .before .before .before .before .before .before .before in
     let a = s .args in
-    let p = s .pre .1 in
     (visit-leaf (a .extra) (a .gates .now) (a .many) (a .nodes .now) (a .at) (a .level) (walk (a .marks .now) (a .seen)) (a .levels) _ (omega (arith, c .before .before .before .before .before .if1 .left)) (c .before .before .before .if2 .taken) (c .meet .ensures .0), c .meet .ensures .1)
 
 visit-add-visit : (t : ℕ) → visit-lts.Need-add-visit (
@@ -153,7 +143,6 @@ visit-add-visit : (t : ℕ) → visit-lts.Need-add-visit (
 ) (visit-at t) visit.Post
 visit-add-visit t c =
     let s = c .before .before .before .before .before in
-    let a = s .args in
     let p = s .pre .1 in
     omega (arith, p .1 .1)
 
@@ -165,7 +154,6 @@ visit-sub-visit : (t : ℕ) → visit-lts.Need-sub-visit (
 ) (visit-at t) visit.Post
 visit-sub-visit t c =
     let s = c .before .before .before .before .before in
-    let a = s .args in
     let p = s .pre .1 in
     omega (arith, p .1 .1, c .before .before .before .if1 .left)
 
@@ -189,7 +177,6 @@ visit-mul-right : (t : ℕ) → visit-lts.Need-mul-right (
 ) (visit-at t) visit.Post
 visit-mul-right t c =
     let s = c .before .before .before .before .before .before .before in
-    let a = s .args in
     let p = s .pre .1 in
     omega (arith, p .1 .1)
 
@@ -201,7 +188,6 @@ visit-add-right : (t : ℕ) → visit-lts.Need-add-right (
 ) (visit-at t) visit.Post
 visit-add-right t c =
     let s = c .before .before .before .before .before .before .before in
-    let a = s .args in
     let p = s .pre .1 in
     omega (arith, p .1 .1)
 
@@ -213,7 +199,6 @@ visit-mul-right-2 : (t : ℕ) → visit-lts.Need-mul-right-2 (
 ) (visit-at t) visit.Post
 visit-mul-right-2 t c =
     let s = c .before .before .before .before .before .before .before in
-    let a = s .args in
     let p = s .pre .1 in
     omega (arith, p .1 .1)
 
@@ -225,7 +210,6 @@ visit-element-copy-out-right : (t : ℕ) → visit-lts.Need-element-copy-out-rig
 ) (visit-at t) visit.Post
 visit-element-copy-out-right t c =
     let s = c .before .before .before .before .before .before .before in
-    let a = s .args in
     let p = s .pre .1 in
     omega (arith, p .1 .1)
 
@@ -237,7 +221,6 @@ visit-add-visit-2 : (t : ℕ) → visit-lts.Need-add-visit-2 (
 ) (visit-at t) visit.Post
 visit-add-visit-2 t c =
     let s = c .before .before .before .before .before .before .before .before .before in
-    let a = s .args in
     let p = s .pre .1 in
     omega (arith, p .1 .1)
 
@@ -249,7 +232,6 @@ visit-sub-visit-2 : (t : ℕ) → visit-lts.Need-sub-visit-2 (
 ) (visit-at t) visit.Post
 visit-sub-visit-2 t c =
     let s = c .before .before .before .before .before .before .before .before .before in
-    let a = s .args in
     let p = s .pre .1 in
     omega (arith, p .1 .1, c .before .before .before .before .before .before .before .if1 .left)
 
@@ -274,7 +256,6 @@ visit-returns-3 : (t : ℕ) → visit-lts.Need-returns-3 (
 visit-returns-3 t c =
     let s = c .before .before .before .before .before .before .before .before .before .before in
     let a = s .args in
-    let p = s .pre .1 in
     (visit-go (a .extra) (a .gates .now) (a .many) (a .nodes .now) (a .at) (a .level) (walk (a .marks .now) (a .seen)) (a .levels) (walk (c .before .before .before .before .visit .last .1 .1 .0) (c .before .before .before .before .visit .result)) _ (omega (arith, c .before .before .before .before .before .before .before .before .if1 .left)) (c .before .before .before .before .before .before .if2 .left) (c .before .before .before .before .visit .ensures .0) (c .before .before .before .if3 .taken) (c .visit2 .ensures .0), omega (arith, c .before .before .before .before .visit .ensures .1, c .visit2 .ensures .1))
 
 visit-returns-4 : (t : ℕ) → visit-lts.Need-returns-4 (
@@ -286,7 +267,6 @@ visit-returns-4 : (t : ℕ) → visit-lts.Need-returns-4 (
 visit-returns-4 t c =
     let s = c .before .before .before .before .before .before .before in
     let a = s .args in
-    let p = s .pre .1 in
     (visit-stop (a .extra) (a .gates .now) (a .many) (a .nodes .now) (a .at) (a .level) (walk (a .marks .now) (a .seen)) (a .levels) _ (omega (arith, c .before .before .before .before .before .if1 .left)) (c .before .before .before .if2 .left) (c .before .visit .ensures .0) (c .if3 .left), c .before .visit .ensures .1)
 
 pub +visit-spec : {M : Type 1} → statement M

@@ -32,10 +32,8 @@ element-copy-out-often c = search needs
 
 wanted-of-requires : tie.Need-wanted-of-requires Inv-loop μ-loop
 wanted-of-requires c κs =
-    let l = c .before .before .loop in
     let s = c .before .before .before .before in
     let a = s .args in
-    let gs = a .gates .now in
     let often : ℕ → ℕ = λ h. getD (a .marks .now) h 0 in
     omega (arith, s .pre)
 

@@ -1,10 +1,10 @@
 -- `made_up::linked_at` meets its contract: its tests are the definition's.
 -- Assumes nothing.
 use borrow.Author.Needs.{needs}
-use borrow.Author.Tests.{eq-eqb, le-leb, le-ltb, lt-leb, lt-ltb, ne-eqb}
+use borrow.Author.Tests.{le-leb, le-ltb, lt-leb, lt-ltb, ne-eqb}
 use mathlib.Core.Path.{sym}
 use Rattle.selector.specs.MadeUp.{linkedAt}
-use Rattle.selector.specs.MadeUpLaws.{linked-in}
+use Rattle.selector.specs.MadeUpLaws.{linked-in, linked-leaf}
 use Rattle.tree.proofs.made_up.linked_at.Statement.{statement}
 use Rattle.tree.proofs.made_up.linked_at.Tie as tie
 
@@ -16,11 +16,6 @@ mul-left-2 c = search needs
 
 element-copy-out-left : tie.Need-element-copy-out-left
 element-copy-out-left c = search needs
-
-returns : tie.Need-returns
-unfolding linkedAt
-returns c =
-    simp (eq-eqb _ _ (c .if1 .taken))
 
 mul-right : tie.Need-mul-right
 mul-right c = search needs
@@ -34,10 +29,15 @@ mul-right-2 c = search needs
 element-copy-out-right : tie.Need-element-copy-out-right
 element-copy-out-right c = search needs
 
+returns : tie.Need-returns
+returns c =
+    let a = c .before .before .before .args in
+    sym (linked-leaf (a .nodes .now) (a .count) (a .at) (c .if1 .taken))
+
 returns-2 : tie.Need-returns-2
 returns-2 c =
     let a = c .before .before .before .before .before .before .args in
-    sym (linked-in (a .nodes .now) (a .count) (a .at) (c .before .before .before .before .if1 .left) (c .before .before .if2 .taken) (c .before .if3 .taken) (c .if4 .taken))
+    sym (linked-in (a .nodes .now) (a .count) (a .at) (c .before .before .before .if1 .left) (c .before .before .if2 .taken) (c .before .if3 .taken) (c .if4 .taken))
 
 returns-3 : tie.Need-returns-3
 unfolding linkedAt
@@ -49,7 +49,7 @@ returns-3 c =
       lt-leb _ _ (c .before .if3 .taken),
       lt-ltb _ _ (c .before .before .if2 .taken),
       lt-leb _ _ (c .before .before .if2 .taken),
-      ne-eqb _ _ (c .before .before .before .before .if1 .left),
+      ne-eqb _ _ (c .before .before .before .if1 .left),
     )
 
 returns-4 : tie.Need-returns-4
@@ -60,7 +60,7 @@ returns-4 c =
       le-ltb _ _ (c .if3 .left),
       lt-ltb _ _ (c .before .if2 .taken),
       lt-leb _ _ (c .before .if2 .taken),
-      ne-eqb _ _ (c .before .before .before .if1 .left),
+      ne-eqb _ _ (c .before .before .if1 .left),
     )
 
 returns-5 : tie.Need-returns-5
@@ -69,7 +69,7 @@ returns-5 c =
     simp (
       le-leb _ _ (c .if2 .left),
       le-ltb _ _ (c .if2 .left),
-      ne-eqb _ _ (c .before .before .if1 .left),
+      ne-eqb _ _ (c .before .if1 .left),
     )
 
 pub linked-at-spec : {M : Type 1} → statement M
@@ -79,11 +79,11 @@ linked-at-spec =
     mul-left
     mul-left-2
     element-copy-out-left
-    returns
     mul-right
     add-right
     mul-right-2
     element-copy-out-right
+    returns
     returns-2
     returns-3
     returns-4

@@ -14,7 +14,6 @@ returns : tie.Need-returns
 returns c =
     let s = c .before .before in
     let a = s .args in
-    let p = s .pre in
     (sym (meet-far (a .extra) (a .gates .now) (a .many) (a .gate) (a .level) (walk (a .marks .now) (a .seen)) (c .if1 .taken)), omega arith)
 
 mul-if2 : tie.Need-mul-if2
@@ -27,7 +26,6 @@ returns-2 : tie.Need-returns-2
 returns-2 c =
     let s = c .before .before .before .before in
     let a = s .args in
-    let p = s .pre in
     (sym (meet-twice (a .extra) (a .gates .now) (a .many) (a .gate) (a .level) (walk (a .marks .now) (a .seen)) (c .before .before .if1 .left) (c .if2 .taken)), omega arith)
 
 mul-marks : tie.Need-mul-marks

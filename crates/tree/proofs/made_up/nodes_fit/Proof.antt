@@ -35,7 +35,6 @@ visit-requires : tie.Need-visit-requires
 visit-requires c κs =
     let s = c .before .before .before .before .before .before in
     let a = s .args in
-    let gs = a .gates .now in
     (s .pre, (links (a .nodes .now) (a .count) (sym (c .before .before .linked .ensures) ∙ c .before .if3 .taken), (omega (arith, c .before .before .before .before .if1 .left), c .before .before .before .if2 .left, omega arith)))
 
 as-wanted-requires : tie.Need-as-wanted-requires
@@ -79,8 +78,6 @@ returns-5 c =
     let ms = r .last .1 .1 .0 in
     let v = walk ms (r .result) in
     let e = fit-by (a .extra) gs (a .many) (a .nodes .now) (a .count) (a .d) (a .k) (a .f) (s .pre .few) v (omega (arith, c .before .before .before .before .before .before .if1 .left)) (c .before .before .before .before .before .if2 .left) (sym (c .before .before .before .before .linked .ensures) ∙ c .before .before .before .if3 .taken) (r .ensures .0) in
-    let more = asWanted (a .many) gs (a .many) (λ (g : ℕ). getD ms g 0) 0 in
-    let last = numbersAre (r .result .degree) (r .result .constants) (a .d) (a .k) (a .f) in
     sym (e ∙ pick-no (r .result .fine) _ false (c .if4 .left))
 
 returns-6 : tie.Need-returns-6

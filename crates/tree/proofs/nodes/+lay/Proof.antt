@@ -320,8 +320,6 @@ lay-returns-2 : (t : ℕ) → lay-lts.Need-returns-2 (
 lay-returns-2 t c =
     let s = c .before .before .before .before .before .before .before .before .before .before .before in
     let a = s .args in
-    let p = s .pre .1 in
-    let w = p .1 .0 in
     let e = c .before .before .before .before .put-node .ensures in
     let d = c .before .before .greater .ensures ∙ ap (max (a .stats .degree)) (c .before .before .before .degree-at-depth .ensures) in
     let k = c .greater2 .ensures ∙ ap (λ (z : ℕ). max (a .stats .constants) (z + a .level)) (c .before .constants-of .ensures) in
@@ -360,9 +358,7 @@ lay-add-lay : (t : ℕ) → lay-lts.Need-add-lay (
 ) (lay-at t) lay.Post
 lay-add-lay t c =
     let s = c .before .before .before .before .before in
-    let a = s .args in
     let p = s .pre .1 in
-    let w = p .1 .0 in
     omega (arith, p .1 .1)
 
 lay-sub-lay : (t : ℕ) → lay-lts.Need-sub-lay (
@@ -531,9 +527,7 @@ lay-add-lay-2 : (t : ℕ) → lay-lts.Need-add-lay-2 (
 ) (lay-at t) lay.Post
 lay-add-lay-2 t c =
     let s = c .before .before .before .before .before .before .before .before .before .before in
-    let a = s .args in
     let p = s .pre .1 in
-    let w = p .1 .0 in
     omega (arith, p .1 .1)
 
 lay-sub-lay-2 : (t : ℕ) → lay-lts.Need-sub-lay-2 (
@@ -591,8 +585,6 @@ lay-returns-3 : (t : ℕ) → lay-lts.Need-returns-3 (
 lay-returns-3 t c =
     let s = c .before .before .before .before .before .before .before .before .before .before .before in
     let a = s .args in
-    let p = s .pre .1 in
-    let w = p .1 .0 in
     let o = c .before .before .put-node2 .ensures in
     λ u h q. done-fork (a .extra) (a .gates .now) (a .old .now) (a .at) (a .level) (a .stats) (a .new .now) (a .levels) u h q (c .before .before .before .before .before .before .before .if2 .left) _ _ _ _ (c .before .before .before .before .before .lay .ensures) (λ r y z. rw o at (c .lay2 .ensures r y z))
 

@@ -66,7 +66,6 @@ try-add-gate-returns : (t : ℕ) → try-add-gate-lts.Need-returns (
 ) (try-add-gate-at t) try-add-gate.Post
 try-add-gate-returns t c =
     let a = c .before .before .args in
-    let p = c .before .before .pre in
     let same = node-none (fitsOffer (a .gates .now) (a .offer)) (a .offer .gate) (a .nodes .now) (a .count) (a .levels) (a .depth) (a .at) (c .if1 .taken) in
     (ap (λ (q : Placed). q .count) (sym same), ap (λ (q : Placed). q .nodes) (sym same))
 
@@ -183,7 +182,6 @@ try-add-gate-may-stand-requires-2 : (t : ℕ) → try-add-gate-lts.Need-may-stan
   try-add-to-sides.Post,
 ) (try-add-gate-at t) try-add-gate.Post
 try-add-gate-may-stand-requires-2 t c κs =
-    let a = c .before .before .before .before .before .before .before .args in
     let p = c .before .before .before .before .before .before .before .pre in
     p .1 .0 .listed
 
@@ -196,7 +194,6 @@ try-add-gate-split-requires : (t : ℕ) → try-add-gate-lts.Need-split-requires
   try-add-to-sides.Post,
 ) (try-add-gate-at t) try-add-gate.Post
 try-add-gate-split-requires t c κs =
-    let a = c .before .before .before .before .before .before .before .before .before .before .args in
     let p = c .before .before .before .before .before .before .before .before .before .before .pre in
     (p .1 .0 .room, p .1 .0 .here)
 
@@ -220,7 +217,6 @@ try-add-gate-returns-2 : (t : ℕ) → try-add-gate-lts.Need-returns-2 (
 ) (try-add-gate-at t) try-add-gate.Post
 try-add-gate-returns-2 t c =
     let a = c .before .before .before .before .before .before .before .before .before .before .before .args in
-    let p = c .before .before .before .before .before .before .before .before .before .before .before .pre in
     let same = node-leaf (fitsOffer (a .gates .now) (a .offer)) (a .offer .gate) (a .nodes .now) (a .count) (a .levels) (a .depth) (a .at) (c .before .before .before .before .before .before .before .before .before .if1 .left) (c .before .before .before .before .before .before .before .if2 .taken) ∙ leaf-yes (fitsOffer (a .gates .now) (a .offer)) (a .offer .gate) (a .nodes .now) (a .count) (a .depth) (a .at) (sym (c .before .before .before .before .before .may-stand .ensures) ∙ c .before .before .before .before .if3 .taken) (sym (c .before .before .before .may-stand2 .ensures) ∙ c .before .before .if4 .taken) in
     (ap (λ (q : Placed). q .count) (sym same), c .split .ensures ∙ ap (λ (q : Placed). q .nodes) (sym same))
 
@@ -234,7 +230,6 @@ try-add-gate-returns-3 : (t : ℕ) → try-add-gate-lts.Need-returns-3 (
 ) (try-add-gate-at t) try-add-gate.Post
 try-add-gate-returns-3 t c =
     let a = c .before .before .before .before .before .before .before .before .before .args in
-    let p = c .before .before .before .before .before .before .before .before .before .pre in
     let same = node-leaf (fitsOffer (a .gates .now) (a .offer)) (a .offer .gate) (a .nodes .now) (a .count) (a .levels) (a .depth) (a .at) (c .before .before .before .before .before .before .before .if1 .left) (c .before .before .before .before .before .if2 .taken) ∙ leaf-new (fitsOffer (a .gates .now) (a .offer)) (a .offer .gate) (a .nodes .now) (a .count) (a .depth) (a .at) (sym (c .before .before .before .may-stand .ensures) ∙ c .before .before .if3 .taken) (sym (c .before .may-stand2 .ensures) ∙ c .if4 .left) in
     (ap (λ (q : Placed). q .count) (sym same), ap (λ (q : Placed). q .nodes) (sym same))
 
@@ -248,7 +243,6 @@ try-add-gate-returns-4 : (t : ℕ) → try-add-gate-lts.Need-returns-4 (
 ) (try-add-gate-at t) try-add-gate.Post
 try-add-gate-returns-4 t c =
     let a = c .before .before .before .before .before .before .before .args in
-    let p = c .before .before .before .before .before .before .before .pre in
     let same = node-leaf (fitsOffer (a .gates .now) (a .offer)) (a .offer .gate) (a .nodes .now) (a .count) (a .levels) (a .depth) (a .at) (c .before .before .before .before .before .if1 .left) (c .before .before .before .if2 .taken) ∙ leaf-old (fitsOffer (a .gates .now) (a .offer)) (a .offer .gate) (a .nodes .now) (a .count) (a .depth) (a .at) (sym (c .before .may-stand .ensures) ∙ c .if3 .left) in
     (ap (λ (q : Placed). q .count) (sym same), ap (λ (q : Placed). q .nodes) (sym same))
 
@@ -281,7 +275,6 @@ try-add-gate-try-add-to-sides-requires : (t : ℕ) → try-add-gate-lts.Need-try
   try-add-to-sides.Post,
 ) (try-add-gate-at t) try-add-gate.Post
 try-add-gate-try-add-to-sides-requires t c κs =
-    let a = c .before .before .before .before .before .args in
     let p = c .before .before .before .before .before .pre in
     (omega arith, (p .1 .0, omega arith))
 
@@ -295,7 +288,6 @@ try-add-gate-returns-5 : (t : ℕ) → try-add-gate-lts.Need-returns-5 (
 ) (try-add-gate-at t) try-add-gate.Post
 try-add-gate-returns-5 t c =
     let a = c .before .before .before .before .before .before .args in
-    let p = c .before .before .before .before .before .before .pre in
     let same = node-fork (fitsOffer (a .gates .now) (a .offer)) (a .offer .gate) (a .nodes .now) (a .count) (a .levels) (a .depth) (a .at) (c .before .before .before .before .if1 .left) (c .before .before .if2 .left) in
     (c .try-add-to-sides .ensures .0 ∙ ap (λ (q : Placed). q .count) (sym same), c .try-add-to-sides .ensures .1 ∙ ap (λ (q : Placed). q .nodes) (sym same))
 
@@ -332,7 +324,6 @@ try-add-to-sides-returns : (t : ℕ) → try-add-to-sides-lts.Need-returns (
 ) (try-add-to-sides-at t) try-add-to-sides.Post
 try-add-to-sides-returns t c =
     let a = c .before .before .before .before .before .args in
-    let p = c .before .before .before .before .before .pre in
     let e = c .before .try-add-gate .ensures in
     let same = fork-left (fitsOffer (a .gates .now) (a .offer)) (a .offer .gate) (a .nodes .now) (a .count) (a .levels) (a .depth) (a .at) (λ z. c .if1 .taken (e .0 ∙ z)) in
     (e .0 ∙ sym (ap (λ (q : Placed). q .count) same), e .1 ∙ sym (ap (λ (q : Placed). q .nodes) same))
@@ -381,7 +372,6 @@ try-add-to-sides-returns-2 : (t : ℕ) → try-add-to-sides-lts.Need-returns-2 (
 ) (try-add-to-sides-at t) try-add-to-sides.Post
 try-add-to-sides-returns-2 t c =
     let a = c .before .before .before .before .before .before .before .before .args in
-    let p = c .before .before .before .before .before .before .before .before .pre in
     let e = c .before .before .before .before .try-add-gate .ensures in
     let n = sym (e .0) ∙ c .before .before .before .if1 .left in
     let same = e .1 ∙ ap (λ (q : Placed). q .nodes) (refused (fitsOffer (a .gates .now) (a .offer)) (a .offer .gate) (a .nodes .now) (a .count) (a .levels) (a .depth) (leftAt (a .nodes .now) (a .at)) n) in

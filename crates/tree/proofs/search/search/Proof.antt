@@ -79,7 +79,6 @@ returns : tie.Need-returns Inv-loop μ-loop
 returns c =
     let s = c .before .before .before .before .before .before .before .before .before .before .before .before in
     let a = s .args in
-    let p = s .pre in
     let r = c .before .before .before .before .before .before .before .before .before .arrange in
     let l = c .before .before .before .before .before .loop in
     let w = c .before .before .before .before .before .before .before .before .power-above in
@@ -104,7 +103,6 @@ loop-again : tie.Need-loop-again Inv-loop μ-loop
 loop-again c =
     let s = c .before .before .before .before .before .before .before .before .before .before .before .before in
     let a = s .args in
-    let p = s .pre in
     let r = c .before .before .before .before .before .before .before .before .before .arrange in
     let l = c .before .before .before .before .before .loop in
     let w = c .before .before .before .before .before .before .before .before .power-above in
@@ -120,8 +118,6 @@ returns-2 : tie.Need-returns-2 Inv-loop μ-loop
 returns-2 c =
     let s = c .before .before .before .before .before .before .before .before in
     let a = s .args in
-    let p = s .pre in
-    let r = c .before .before .before .before .before .arrange in
     let l = c .before .loop in
     (rw (l .inv .3 ∙ target-none (a .many) (within (a .gates .now) (a .many) (a .extra)) (l .k) (l .target) (c .loop-test .left)) refl, l .inv .2)
 

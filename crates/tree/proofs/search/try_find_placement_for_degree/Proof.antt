@@ -31,7 +31,6 @@ place-all-requires : tie.Need-place-all-requires Inv-loop μ-loop
 place-all-requires c κs =
     let l = c .before .before .loop in
     let s = c .before .before .before .before in
-    let a = s .args in
     let p = s .pre in
     ((p .0 .0, omega (arith, p .0 .1, l .inv .0, c .before .loop-test .taken), p .0 .2, l .inv .1), p .1)
 
@@ -40,7 +39,6 @@ returns c =
     let l = c .before .before .before .before .loop in
     let s = c .before .before .before .before .before .before in
     let a = s .args in
-    let p = s .pre in
     let e = c .before .place-all .ensures in
     (rw (l .inv .2) (bound-won (a .many) (each (a .gates .now) (a .order .now) (a .base) (a .extra) (a .target)) (l .k) (l .b) _ _ (c .before .before .before .loop-test .taken) (e .0) (c .if1 .taken)), e .1)
 
@@ -48,7 +46,6 @@ add-b : tie.Need-add-b Inv-loop μ-loop
 add-b c =
     let l = c .before .before .before .before .loop in
     let s = c .before .before .before .before .before .before in
-    let a = s .args in
     let p = s .pre in
     omega (arith, l .inv .0, p .0 .1)
 
@@ -56,7 +53,6 @@ sub-k : tie.Need-sub-k Inv-loop μ-loop
 sub-k c =
     let l = c .before .before .before .before .loop in
     let s = c .before .before .before .before .before .before in
-    let a = s .args in
     let p = s .pre in
     omega (arith, l .inv .0, p .0 .1)
 
@@ -64,7 +60,6 @@ loop-less : tie.Need-loop-less Inv-loop μ-loop
 loop-less c =
     let l = c .before .before .before .before .loop in
     let s = c .before .before .before .before .before .before in
-    let a = s .args in
     let p = s .pre in
     omega (arith, l .inv .0, p .0 .1)
 
@@ -73,7 +68,6 @@ loop-again c =
     let l = c .before .before .before .before .loop in
     let s = c .before .before .before .before .before .before in
     let a = s .args in
-    let p = s .pre in
     let e = c .before .place-all .ensures in
     (omega (arith, l .inv .0), e .1, l .inv .2 ∙ bound-lost (a .many) (each (a .gates .now) (a .order .now) (a .base) (a .extra) (a .target)) (l .k) (l .b) _ _ (c .before .before .before .loop-test .taken) (e .0) (c .if1 .left))
 
@@ -82,7 +76,6 @@ returns-2 c =
     let l = c .before .loop in
     let s = c .before .before .before in
     let a = s .args in
-    let p = s .pre in
     (rw (l .inv .2 ∙ bound-none (a .many) (each (a .gates .now) (a .order .now) (a .base) (a .extra) (a .target)) (l .k) (l .b) (c .loop-test .left)) refl, l .inv .1)
 
 pub try-find-placement-for-degree-spec : {M : Type 1} → statement M

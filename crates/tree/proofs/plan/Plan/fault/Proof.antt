@@ -87,7 +87,6 @@ nodes-fit-requires : tie.Need-nodes-fit-requires
 nodes-fit-requires c κs =
     let s = c .before .before .before .before .before .before .before .before .before .before .before .before .args .self in
     let e = c .before .before .before .before .before .before .before .before .before .before .before .parameters .ensures in
-    let f = c .before .before .before .before .before .before .before .before .before .before .number .ensures ∙ ap parametersNumber e in
     let q : c .before .before .before .before .gates-number .result ≡ gatesNumber (modeOf (s .lookup)) (s .allowed) (gatesGiven s) (s .«gate_count») = c .before .before .before .before .gates-number .ensures ∙ ap (λ (z : Parameters). gatesNumber (z .mode) (s .allowed) (gatesGiven s) (s .«gate_count»)) e in
     let x : c .before .extra-of .result ≡ planExtra s = c .before .extra-of .ensures ∙ ap (λ (z : Parameters). extraOf (z .mode)) e in
     let l : length (s .gates) ≡ 384 = search needs in

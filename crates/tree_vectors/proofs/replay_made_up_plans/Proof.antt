@@ -1,0 +1,42 @@
+-- `tree_vectors::replay_made_up_plans` is safe and ends. The measure is what is left; nothing has to hold from turn to turn.
+-- Assumes nothing.
+use borrow.Author.Needs.{needs}
+use Rattle.tree_vectors.proofs.replay_made_up_plans.Statement.{statement}
+use Rattle.tree_vectors.proofs.replay_made_up_plans.Tie as tie
+
+abbrev Inv-loop : tie.InvT-loop
+Inv-loop bytes count s₀ left₀ s left = Unit {0}
+
+abbrev μ-loop : tie.MeasureT-loop
+μ-loop bytes count s₀ left₀ s left = left
+
+loop-holds : tie.Need-loop-holds Inv-loop μ-loop
+loop-holds c = search needs
+
+replay-made-up-requires : tie.Need-replay-made-up-requires Inv-loop μ-loop
+replay-made-up-requires c κs = search needs
+
+sub-left : tie.Need-sub-left Inv-loop μ-loop
+sub-left c = search needs
+
+loop-less : tie.Need-loop-less Inv-loop μ-loop
+loop-less c = search needs
+
+loop-again : tie.Need-loop-again Inv-loop μ-loop
+loop-again c = search needs
+
+returns : tie.Need-returns Inv-loop μ-loop
+returns c = search needs
+
+pub replay-made-up-plans-spec : {M : Type 1} → statement M
+replay-made-up-plans-spec =
+    tie.close
+    (tie.spec
+    Inv-loop
+    μ-loop
+    loop-holds
+    replay-made-up-requires
+    sub-left
+    loop-less
+    loop-again
+    returns)
