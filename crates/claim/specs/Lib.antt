@@ -3,3 +3,5 @@ pub mod Statement
 pub mod Invariant
 pub mod Planned
 pub mod Parts
+pub mod FromPlan
+pub mod Theorem

@@ -20,8 +20,9 @@ use Rattle.pieces.specs.Rows.{rowsFault, rowsNumber, rowsWritten, rowsState}
 use Rattle.pieces.specs.SWords.{sWordsFault, sWordsNumber, sWordsWritten, sWordsState}
 use Rattle.pieces.specs.Cells.{cellsFault, cellsNumber, roomForCells, cellsWritten, cellsState}
 use Rattle.pieces.specs.Tables.{tablesFault, tablesNumber, tablesWritten, tablesState, stackOf}
+use Rattle.pieces.specs.Finishing.{complete, allUsed, scratchFine, finishNumber, finishedCopies, finishedState}
 use Rattle.pieces.specs.NumberLaws.{Stood, stood}
-use Rattle.columns.specs.Intake.{settingOf, stateOf, withState, startOf, answered, unlessRefused, refusedWith, openAnswer, openLeft, rowsAnswer, rowsLeft, sWordsAnswer, sWordsLeft, cellsAnswer, cellsLeft, tablesAnswer, tablesLeft}
+use Rattle.columns.specs.Intake.{settingOf, stateOf, withState, startOf, answered, unlessRefused, refusedWith, openAnswer, openLeft, rowsAnswer, rowsLeft, sWordsAnswer, sWordsLeft, cellsAnswer, cellsLeft, tablesAnswer, tablesLeft, finishAnswer, finishLeft}
 use Rattle.columns.specs.declared.intake.Intake.{Intake}
 use Rattle.columns.specs.declared.intake.Taken.{Taken}
 
@@ -185,3 +186,51 @@ module _ (q : Plan) (b : Store) where
   pub open-taken : openNumber o b ≡ 0 → (_≡_ {A = Taken} (record { number = 0; state = startOf q 1 }) (openAnswer q b)) × (openStore o b ≡ openLeft q b)
   unfolding openAnswer openLeft
   open-taken e = (sym (rw (eq-eqb (openNumber o b) 0 e)), taken-left (openNumber o b) (openStore o b) b e)
+
+-- ---- finishing
+module _ (s : Intake) (b : Cols) where
+  abbrev y : Setting
+  y = settingOf (s .plan)
+
+  pub finish-19 : stands y (stateOf s) ≡ false → finishNumber y (stateOf s) b ≡ 19
+  unfolding finishNumber
+  finish-19 e = rw e
+
+  pub finish-10-copies : stands y (stateOf s) ≡ true → length (b .copies) < copyRoom y → finishNumber y (stateOf s) b ≡ 10
+  unfolding finishNumber roomForCells
+  finish-10-copies e h = rw (e, lt-leb (copyRoom y) (length (b .copies)) h)
+
+  pub finish-10-scratch : stands y (stateOf s) ≡ true → copyRoom y ≤ length (b .copies) → length (b .scratch) < scratchRoom y → finishNumber y (stateOf s) b ≡ 10
+  unfolding finishNumber roomForCells
+  finish-10-scratch e h k = rw (e, le-leb (copyRoom y) (length (b .copies)) h, lt-leb (scratchRoom y) (length (b .scratch)) k)
+
+  -- what is left to test once the buffers are long enough
+  abbrev left-over : ℕ
+  left-over = pick (complete y (stateOf s)) (pick (allUsed (y .gates) (s .used)) (pick (scratchFine (y .variables) (copyRoom y) (b .scratch)) 0 18) 17) 16
+
+  finish-own : stands y (stateOf s) ≡ true → copyRoom y ≤ length (b .copies) → scratchRoom y ≤ length (b .scratch) → finishNumber y (stateOf s) b ≡ left-over
+  unfolding finishNumber roomForCells
+  finish-own e h k = rw (e, le-leb (copyRoom y) (length (b .copies)) h, le-leb (scratchRoom y) (length (b .scratch)) k)
+
+  module _ (e : stands y (stateOf s) ≡ true) (h : copyRoom y ≤ length (b .copies)) (k : scratchRoom y ≤ length (b .scratch)) where
+    pub finish-16 : complete y (stateOf s) ≡ false → finishNumber y (stateOf s) b ≡ 16
+    finish-16 q = finish-own e h k ∙ pick-no (complete y (stateOf s)) _ 16 q
+
+    pub finish-17 : complete y (stateOf s) ≡ true → allUsed (y .gates) (s .used) ≡ false → finishNumber y (stateOf s) b ≡ 17
+    finish-17 q u = finish-own e h k ∙ pick-yes (complete y (stateOf s)) _ 16 q ∙ pick-no (allUsed (y .gates) (s .used)) _ 17 u
+
+    pub finish-18 : complete y (stateOf s) ≡ true → allUsed (y .gates) (s .used) ≡ true → scratchFine (y .variables) (copyRoom y) (b .scratch) ≡ false → finishNumber y (stateOf s) b ≡ 18
+    finish-18 q u f =
+        finish-own e h k ∙ pick-yes (complete y (stateOf s)) _ 16 q ∙ pick-yes (allUsed (y .gates) (s .used)) _ 17 u ∙ pick-no (scratchFine (y .variables) (copyRoom y) (b .scratch)) 0 18 f
+
+    pub finish-0 : complete y (stateOf s) ≡ true → allUsed (y .gates) (s .used) ≡ true → scratchFine (y .variables) (copyRoom y) (b .scratch) ≡ true → finishNumber y (stateOf s) b ≡ 0
+    finish-0 q u f =
+        finish-own e h k ∙ pick-yes (complete y (stateOf s)) _ 16 q ∙ pick-yes (allUsed (y .gates) (s .used)) _ 17 u ∙ pick-yes (scratchFine (y .variables) (copyRoom y) (b .scratch)) 0 18 f
+
+  pub finish-refused : (n : ℕ) → finishNumber y (stateOf s) b ≡ n → n ≢ 0 → (refusedWith n s ≡ finishAnswer s b) × (b .copies ≡ finishLeft s b)
+  unfolding finishAnswer finishLeft
+  finish-refused n e d = rw e (refused-answer n s (finishedState (stateOf s)) d, refused-left n (finishedCopies y b) (b .copies) d)
+
+  pub finish-taken : finishNumber y (stateOf s) b ≡ 0 → (_≡_ {A = Taken} (record { number = 0; state = withState (s .plan) (finishedState (stateOf s)) }) (finishAnswer s b)) × (finishedCopies y b ≡ finishLeft s b)
+  unfolding finishAnswer finishLeft
+  finish-taken e = (taken-answer (finishNumber y (stateOf s) b) s (finishedState (stateOf s)) e, taken-left (finishNumber y (stateOf s) b) (finishedCopies y b) (b .copies) e)

@@ -102,23 +102,23 @@ pathless t g e = go (ℕ-discrete (standing g t) 0)
     go (no d) = let s = path-some t g (omega arith) in absurd (let z : _≡_ {A = ℕ} 0 1 = cc (s .1, e) in omega arith)
 
 module _ (q : Plan) (e : planFault q ≡ 0) (long : 384 ≤ length (q .gates)) where
-  abbrev many : ℕ
+  abbrev pub many : ℕ
   many = q .«gate_count»
 
-  abbrev words : List ℕ
+  abbrev pub words : List ℕ
   words = gatesGiven q
 
   whole : Faultless q
   whole = fault-none q e
 
-  nodes : Sturdy (planExtra q) words many (q .nodes) (q .«node_count») (q .degree) (q .constants) (q .factor)
+  pub nodes : Sturdy (planExtra q) words many (q .nodes) (q .«node_count») (q .degree) (q .constants) (q .factor)
   nodes = whole .nodes
 
   given : InRange (parametersOf q)
   unfolding parametersNumber
   given = in-range (parametersOf q) (first-zero (rangeNumber (parametersOf q)) (flagNumber (parametersOf q)) (whole .parameters) .0)
 
-  path-is : (g : ℕ) → planPath q g ≡ pathOf g (nodes .tree)
+  pub path-is : (g : ℕ) → planPath q g ≡ pathOf g (nodes .tree)
   path-is g = ap (λ (o : Option Tree). pathIn o g) (nodes .is)
 
   deep : depth (nodes .tree) < 32
@@ -130,7 +130,7 @@ module _ (q : Plan) (e : planFault q ≡ 0) (long : 384 ≤ length (q .gates)) w
   records : Records words many (planExtra q)
   records = gates-sound (modeOf (q .lookup)) (q .allowed) words many (whole .gates) (omega (arith, given-length)) (whole .few-gates)
 
-  good-records : recordsNumber many words 0 ≡ 0
+  pub good-records : recordsNumber many words 0 ≡ 0
   unfolding gatesNumber
   good-records = first-zero (recordsNumber many words 0) _ (whole .gates) .0
 

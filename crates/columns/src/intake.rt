@@ -5,7 +5,8 @@ ghost use Prim.Native.Nat.{ℕ, _*_, _+_};
 ghost use lib.ListN.{length};
 ghost use Rattle.tree.specs.Plan.{planFault};
 ghost use Rattle.pieces.specs.Setting.{cols, stands};
-ghost use Rattle.columns.specs.Intake.{settingOf, stateOf, storeOf, refusedWith, RoomsOf, openAnswer, openLeft, rowsAnswer, rowsLeft, sWordsAnswer, sWordsLeft, cellsAnswer, cellsLeft, tablesAnswer, tablesLeft};
+ghost use Rattle.pieces.specs.Finishing.{complete};
+ghost use Rattle.columns.specs.Intake.{settingOf, stateOf, storeOf, refusedWith, RoomsOf, openAnswer, openLeft, rowsAnswer, rowsLeft, sWordsAnswer, sWordsLeft, cellsAnswer, cellsLeft, tablesAnswer, tablesLeft, finishAnswer, finishLeft};
 use crate::cells::cells_fault;
 use crate::cells::place_cells;
 use crate::finishing::all_used;
@@ -313,6 +314,57 @@ impl Intake {
                 number: 0,
                 state: self,
             };
+        }
+        refused(19, self)
+    }
+
+    // Whether rows, S words and cells are all there.
+    fn complete(self) -> bool
+        requires { ⌜ planFault (self .plan) ≡ 0 ⌝ }
+        ensures { λ r. ⌜ r ≡ complete (settingOf (self .plan)) (stateOf self) ⌝ }
+    {
+        let plan = self.plan;
+        if self.rows != plan.trace {
+            return false;
+        }
+        if self.s_words != plan.specialised * plan.trace {
+            return false;
+        }
+        self.cells == plan.copy * plan.trace
+    }
+
+    // Finishing: each seen variable's value goes to its first cell, by rising index. Nothing is
+    // written unless everything is complete, every gate is in a row and all of scratch is fine.
+    pub fn finish(mut self, copies: &mut [u64], scratch: &[u64]) -> Taken
+        ensures { λ r. ⌜ r ≡ finishAnswer self (cols (now (copies .entry)) (now (scratch .entry))) ⌝ }
+        ensures { λ _. ⌜ now (copies .exit) ≡ finishLeft self (cols (now (copies .entry)) (now (scratch .entry))) ⌝ }
+    {
+        if self.stands() {
+            let plan = self.plan;
+            let rooms = rooms_of(plan);
+            if copies.len() < rooms.copies {
+                return refused(10, self);
+            }
+            if scratch.len() < rooms.scratch {
+                return refused(10, self);
+            }
+            if self.complete() {
+                let used = self.used;
+                if all_used(plan.gate_count, &used) {
+                    let cells = plan.copy * plan.trace;
+                    if scratch_fine(plan.variables, cells, scratch) {
+                        write_firsts(plan.variables, cells, scratch, copies);
+                        self.phase = FINISHED;
+                        return Taken {
+                            number: 0,
+                            state: self,
+                        };
+                    }
+                    return refused(18, self);
+                }
+                return refused(17, self);
+            }
+            return refused(16, self);
         }
         refused(19, self)
     }
