@@ -4,7 +4,7 @@ ghost use Prim.Native.Nat.{ℕ, _+_, _*_, _<_, _≤_};
 ghost use lib.ListN.{length, getD};
 ghost use Rattle.pieces.specs.Setting.{cols};
 ghost use Rattle.pieces.specs.Cells.{placeholder, indexOf, cellFault, cellsFault, placeCell, cellsRun};
-use crate::variable::Variable;
+use cs::Variable;
 
 // The number of one cell word, 0 where it has no fault.
 fn cell_fault(total: u64, vars: u64, cell: u64, variable: Variable) -> u64

@@ -8,4 +8,3 @@ mod records;
 mod rows;
 mod s_words;
 mod tables;
-pub mod variable;

@@ -11,7 +11,7 @@ use Rattle.columns.proofs.cells.cell_fault.Statement.{statement}
 use Rattle.columns.proofs.cells.cell_fault.Tie as tie
 
 returns : tie.Need-returns
-returns c = let a = c .before .args in sym (cell-past (a .total) (a .vars) (a .cell) (a .variable .0) (c .if1 .taken))
+returns c = let a = c .before .args in sym (cell-past (a .total) (a .vars) (a .cell) (a .variable .0) (omega (arith, c .if1 .taken)))
 
 is-placeholder-requires : tie.Need-is-placeholder-requires
 is-placeholder-requires c κs = search needs

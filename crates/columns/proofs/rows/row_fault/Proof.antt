@@ -84,7 +84,7 @@ returns-5 c =
     let cs = take n (drop 2 (a .words .now)) in
     let known : g < a .many = c .before .before .before .before .before .before .before .before .if2 .left in
     let few : n ≤ getD (a .own .now) g 0 = c .before .before .before .before .before .if3 .left in
-    sym (ap (rowFault (a .many) (λ (g : ℕ). getD (a .own .now) g 0) (a .trace) (a .row)) (read (c .before .before .before .before)) ∙ row-past (a .many) (λ (g : ℕ). getD (a .own .now) g 0) (a .trace) (a .row) g n cs known few (sym (below (c .before .before)) ∙ c .before .if5 .taken) (c .if6 .taken))
+    sym (ap (rowFault (a .many) (λ (g : ℕ). getD (a .own .now) g 0) (a .trace) (a .row)) (read (c .before .before .before .before)) ∙ row-past (a .many) (λ (g : ℕ). getD (a .own .now) g 0) (a .trace) (a .row) g n cs known few (sym (below (c .before .before)) ∙ c .before .if5 .taken) (omega (arith, c .if6 .taken)))
 
 returns-6 : tie.Need-returns-6
 returns-6 c =

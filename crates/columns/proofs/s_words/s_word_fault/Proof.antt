@@ -8,7 +8,7 @@ use Rattle.columns.proofs.s_words.s_word_fault.Statement.{statement}
 use Rattle.columns.proofs.s_words.s_word_fault.Tie as tie
 
 returns : tie.Need-returns
-returns c = let a = c .before .args in sym (word-past (a .total) (a .at) (a .word) (c .if1 .taken))
+returns c = let a = c .before .args in sym (word-past (a .total) (a .at) (a .word) (omega (arith, c .if1 .taken)))
 
 returns-2 : tie.Need-returns-2
 returns-2 c = let a = c .before .before .args in sym (word-large (a .total) (a .at) (a .word) (c .before .if1 .left) (c .if2 .taken))

@@ -34,7 +34,7 @@ returns-2 c =
 returns-3 : tie.Need-returns-3
 returns-3 c =
     let a = c .before .before .before .before .before .before .args in
-    sym (table-front (a .lookup) (a .width) (a .trace) (stack (a .count) (a .high)) (a .words .now) (c .before .before .before .if2 .left) (λ cs. table-count (a .lookup) (a .width) (a .trace) (stack (a .count) (a .high)) (getD (a .words .now) 0 0) (getD (a .words .now) 1 0) cs (c .before .before .before .before .if1 .taken) (c .before .if3 .left) (c .if4 .taken)))
+    sym (table-front (a .lookup) (a .width) (a .trace) (stack (a .count) (a .high)) (a .words .now) (c .before .before .before .if2 .left) (λ cs. table-count (a .lookup) (a .width) (a .trace) (stack (a .count) (a .high)) (getD (a .words .now) 0 0) (getD (a .words .now) 1 0) cs (c .before .before .before .before .if1 .taken) (c .before .if3 .left) (omega (arith, c .if4 .taken))))
 
 shared-slice-read-n : tie.Need-shared-slice-read-n
 shared-slice-read-n c = search needs

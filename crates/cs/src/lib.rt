@@ -53,13 +53,14 @@ impl Witness {
     pub fn is_placeholder(self) -> bool
         ensures { λ r. ⌜ r ≡ leb placeholder (self .0) ⌝ }
     {
-        PLACEHOLDER_BIT <= self.0
+        self.0 >= PLACEHOLDER_BIT
     }
 
     pub fn as_witness_index(self) -> u64
         ensures { λ r. ⌜ r ≡ indexOf (self .0) ⌝ }
     {
-        self.0 % INDEX_BOUND
+        let word = self.0;
+        word % INDEX_BOUND
     }
 
     pub fn from_witness_index(index: u64) -> Self
