@@ -1,4 +1,4 @@
--- 01's worked cases on columns, computed: P7 (rows) and P9 (cells and finishing).
+-- 01's worked cases on columns, computed: P7 (rows) and P9 (cells and finishing, without and with refused calls).
 --
 -- Main statement: `worked`.
 use mathlib.Core.Path.{_≡_, refl}
@@ -79,13 +79,20 @@ p7-words = 0 ∷ (1 ∷ (5 ∷ (1 ∷ (0 ∷ (2 ∷ (0 ∷ (2 ∷ (0 ∷ [])))))
 unfoldable pub p9-calls : List Call
 p9-calls = rows (0 ∷ (0 ∷ (0 ∷ (0 ∷ [])))) ∷ (cellWords (0 ∷ (0 ∷ (0 ∷ (placeholder ∷ [])))) ∷ (finishing ∷ []))
 
+-- the same pieces with refused calls among them: a gate that is not listed, finishing too early, an index that is too high, finishing twice
+unfoldable pub p9-refused : List Call
+p9-refused =
+    rows (1 ∷ (0 ∷ [])) ∷ (rows (0 ∷ (0 ∷ (0 ∷ (0 ∷ [])))) ∷ (finishing ∷ (cellWords (0 ∷ (1 ∷ [])) ∷ (cellWords (0 ∷ (0 ∷ (0 ∷ (placeholder ∷ [])))) ∷ (finishing ∷ (finishing ∷ []))))))
+
 pub record Worked : Type 0 where
   -- "P7 with N=4 and rows 0 (constant 5), 1, 2, 2: columns 1 0 0 0 and 5 1 0 0."
   pub p7 : run p7-setting (rows p7-words ∷ []) (fresh p7-setting (old 9 5 1)) .store .constants
       ≡ 1 ∷ (0 ∷ (0 ∷ (0 ∷ (5 ∷ (1 ∷ (0 ∷ (0 ∷ (9 ∷ []))))))))
   -- "P9 N=2, C=2, one variable in the first three cells: 7 1, p−1 p−7."
   pub p9 : run p9-setting p9-calls (fresh p9-setting (old 1 5 3)) .store .cells .copies ≡ 7 ∷ (1 ∷ ((p - 1) ∷ ((p - 7) ∷ (9 ∷ []))))
+  -- "A refusal returns its number and the state given; no word is written."
+  pub p9-same : run p9-setting p9-refused (fresh p9-setting (old 1 5 3)) ≡ run p9-setting p9-calls (fresh p9-setting (old 1 5 3))
 
 pub worked : Worked
-unfolding p7-setting p9-setting p7-words p9-calls paths constants old stands readBy rowsOf firstFault allBelow put padded putLines rowFault rowsNumber rowLines rowsWritten marked sWordsNumber cellFault cellsNumber roomForCells firstSeen seenAgain placeCell cellsRun tablesNumber everyFrom complete allUsed variableFine scratchFine finishNumber writeBack finishFrom number taken after run
-worked = record { p7 = refl; p9 = refl }
+unfolding p7-setting p9-setting p7-words p9-calls p9-refused paths constants old stands readBy rowsOf firstFault allBelow put padded putLines rowFault rowsNumber rowLines rowsWritten marked sWordsNumber cellFault cellsNumber roomForCells firstSeen seenAgain placeCell cellsRun tablesNumber everyFrom complete allUsed variableFine scratchFine finishNumber writeBack finishFrom number taken after run
+worked = record { p7 = refl; p9 = refl; p9-same = refl }
