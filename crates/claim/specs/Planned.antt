@@ -1,4 +1,4 @@
--- What planning and the labels give the columns. The theorem of `Parts` is over any setting that has it; `Theorem` shows that a planned one does.
+-- What planning and the labels give the columns. The theorems of `Parts` are over any setting that has it; `FromPlan` shows that a planned one does.
 --
 -- Main definitions: `Part`, `Digits`, `Planned`.
 use mathlib.Core.Path.{_≡_}
