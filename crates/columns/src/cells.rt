@@ -23,7 +23,7 @@ fn cell_fault(total: u64, vars: u64, cell: u64, variable: Variable) -> u64
 }
 
 // The number of the first faulty word of a piece.
-pub fn cells_fault(total: u64, vars: u64, count: u64, piece: &[u64]) -> u64
+pub(crate) fn cells_fault(total: u64, vars: u64, count: u64, piece: &[u64]) -> u64
     requires { ⌜ (count ≤ total) × (total ≤ 4294967296) ⌝ }
     ensures { λ r. ⌜ r ≡ cellsFault total vars count (now (piece .entry)) ⌝ }
 {
@@ -63,7 +63,7 @@ fn place_cell(cell: u64, variable: Variable, copies: &mut [u64], scratch: &mut [
 }
 
 // The words of a piece without a fault, in the cells from number `count` on.
-pub fn place_cells(count: u64, piece: &[u64], copies: &mut [u64], scratch: &mut [u64])
+pub(crate) fn place_cells(count: u64, piece: &[u64], copies: &mut [u64], scratch: &mut [u64])
     requires { ⌜ count + length (now piece) ≤ length (now copies) ⌝ }
     requires { ⌜ ((j : ℕ) → j < length (now piece) → getD (now piece) j 0 < placeholder → 2 * indexOf (getD (now piece) j 0) + 1 < length (now scratch)) ⌝ }
     ensures { λ _. ⌜ cols (now (copies .exit)) (now (scratch .exit)) ≡ cellsRun count (now (piece .entry)) (cols (now (copies .entry)) (now (scratch .entry))) ⌝ }

@@ -7,7 +7,7 @@ ghost use lib.ListN.{length};
 ghost use Rattle.pieces.specs.Finishing.{allUsed, variableFine, scratchFine, writeBack, finishFrom};
 
 // Whether each of the `many` gates is in some row.
-pub fn all_used(many: u64, used: &[u64; 128]) -> bool
+pub(crate) fn all_used(many: u64, used: &[u64; 128]) -> bool
     requires { ⌜ many ≤ 128 ⌝ }
     ensures { λ r. ⌜ r ≡ allUsed many (now (used .entry)) ⌝ }
 {
@@ -38,7 +38,7 @@ fn variable_fine(cells: u64, v: u64, scratch: &[u64]) -> bool
 }
 
 // The same for all variables.
-pub fn scratch_fine(variables: u64, cells: u64, scratch: &[u64]) -> bool
+pub(crate) fn scratch_fine(variables: u64, cells: u64, scratch: &[u64]) -> bool
     requires { ⌜ (variables ≤ 1048576) × (2 * variables ≤ length (now scratch)) ⌝ }
     ensures { λ r. ⌜ r ≡ scratchFine variables cells (now (scratch .entry)) ⌝ }
 {
@@ -68,7 +68,7 @@ fn write_back(cells: u64, v: u64, scratch: &[u64], copies: &mut [u64])
 }
 
 // The variables' values, by rising index.
-pub fn write_firsts(variables: u64, cells: u64, scratch: &[u64], copies: &mut [u64])
+pub(crate) fn write_firsts(variables: u64, cells: u64, scratch: &[u64], copies: &mut [u64])
     requires { ⌜ (variables ≤ 1048576) × (2 * variables ≤ length (now scratch)) × (cells ≤ length (now copies)) ⌝ }
     requires { ⌜ scratchFine variables cells (now scratch) ≡ true ⌝ }
     ensures { λ _. ⌜ now (copies .exit) ≡ finishFrom 0 variables (now (scratch .entry)) (now (copies .entry)) ⌝ }

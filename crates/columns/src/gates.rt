@@ -26,7 +26,7 @@ fn own_constants(plan: Plan, gate: u64) -> u64
 }
 
 // Paths and constants of all gates of a sound plan.
-pub fn gate_rows(plan: Plan) -> GateRows
+pub(crate) fn gate_rows(plan: Plan) -> GateRows
     requires { ⌜ planFault plan ≡ 0 ⌝ }
     ensures { λ r. ⌜ GatesOf plan r ⌝ }
 {

@@ -5,7 +5,7 @@ ghost use lib.ListN.{length};
 ghost use Rattle.pieces.specs.Writing.{cleared};
 
 // The first `many` words become 0.
-pub fn clear(many: usize, buffer: &mut [u64])
+pub(crate) fn clear(many: usize, buffer: &mut [u64])
     requires { ⌜ many ≤ length (now buffer) ⌝ }
     ensures { λ _. ⌜ now (buffer .exit) ≡ cleared many (now (buffer .entry)) ⌝ }
 {

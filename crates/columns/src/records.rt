@@ -10,7 +10,7 @@ ghost use Rattle.selector.specs.Paths.{bitsOf};
 ghost use Rattle.columns.specs.Digits.{Spelled};
 
 // Whether every word is below p.
-pub fn all_below(words: &[u64]) -> bool
+pub(crate) fn all_below(words: &[u64]) -> bool
     ensures { λ r. ⌜ r ≡ allBelow p (now (words .entry)) ⌝ }
 {
     let mut i = 0;
@@ -24,7 +24,7 @@ pub fn all_below(words: &[u64]) -> bool
 }
 
 // Words at place `at` and every `step` words after it: a part of a line, across the columns.
-pub fn write_words(step: usize, at: usize, words: &[u64], buffer: &mut [u64])
+pub(crate) fn write_words(step: usize, at: usize, words: &[u64], buffer: &mut [u64])
     requires { ⌜ (step ≤ 65536) × (at + length (now words) * step < length (now buffer) + step) ⌝ }
     ensures { λ _. ⌜ now (buffer .exit) ≡ put step (now (buffer .entry)) at (now (words .entry)) ⌝ }
 {
@@ -38,7 +38,7 @@ pub fn write_words(step: usize, at: usize, words: &[u64], buffer: &mut [u64])
 }
 
 // The digits of a path in the same way, the step from the root first.
-pub fn write_path(step: usize, at: usize, bits: u64, steps: u64, buffer: &mut [u64])
+pub(crate) fn write_path(step: usize, at: usize, bits: u64, steps: u64, buffer: &mut [u64])
     requires { ⌜ (step ≤ 65536) × (steps ≤ 32) × (at + steps * step < length (now buffer) + step) ⌝ }
     ensures { λ _. ⌜ ((path : List ℕ) → Spelled path bits steps → now (buffer .exit) ≡ put step (now (buffer .entry)) at path) ⌝ }
 {
@@ -54,7 +54,7 @@ pub fn write_path(step: usize, at: usize, bits: u64, steps: u64, buffer: &mut [u
 }
 
 // As many zeros.
-pub fn write_zeros(step: usize, at: usize, many: u64, buffer: &mut [u64])
+pub(crate) fn write_zeros(step: usize, at: usize, many: u64, buffer: &mut [u64])
     requires { ⌜ (step ≤ 65536) × (many ≤ 64) × (at + many * step < length (now buffer) + step) ⌝ }
     ensures { λ _. ⌜ now (buffer .exit) ≡ put step (now (buffer .entry)) at (replicate many 0) ⌝ }
 {

@@ -45,7 +45,7 @@ fn row_fault(many: u64, own: &[u64; 128], trace: u64, row: u64, words: &[u64]) -
 }
 
 // The number of the first faulty record of a piece.
-pub fn rows_fault(many: u64, own: &[u64; 128], trace: u64, count: u64, piece: &[u64]) -> u64
+pub(crate) fn rows_fault(many: u64, own: &[u64; 128], trace: u64, count: u64, piece: &[u64]) -> u64
     requires { ⌜ (many ≤ 128) × (count ≤ trace) × (trace ≤ 65536) ⌝ }
     ensures { λ r. ⌜ r ≡ rowsFault many (λ (g : ℕ). getD (now (own .entry)) g 0) trace count (rowsOf (now (piece .entry))) ⌝ }
 {
@@ -96,7 +96,7 @@ pub struct GateRows {
 }
 
 // The records of a piece without a fault, in the rows from `count` on; their gates are marked.
-pub fn write_rows(
+pub(crate) fn write_rows(
     height: u64,
     trace: u64,
     count: u64,

@@ -19,7 +19,7 @@ fn s_word_fault(total: u64, at: u64, word: u64) -> u64
 }
 
 // The number of the first faulty word of a piece.
-pub fn s_words_fault(total: u64, count: u64, piece: &[u64]) -> u64
+pub(crate) fn s_words_fault(total: u64, count: u64, piece: &[u64]) -> u64
     requires { ⌜ (count ≤ total) × (total ≤ 4294967296) ⌝ }
     ensures { λ r. ⌜ r ≡ sWordsFault total count (now (piece .entry)) ⌝ }
 {

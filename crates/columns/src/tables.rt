@@ -47,7 +47,7 @@ fn table_fault(lookup: bool, width: u64, trace: u64, count: u64, high: u64, word
 }
 
 // The number of the first faulty record of a piece.
-pub fn tables_fault(
+pub(crate) fn tables_fault(
     lookup: bool,
     width: u64,
     trace: u64,
@@ -115,7 +115,7 @@ pub struct TableStack {
 }
 
 // The tables of a piece without a fault, on top of `count` tables of `high` rows in all.
-pub fn write_tables(
+pub(crate) fn write_tables(
     width: u64,
     trace: u64,
     count: u64,

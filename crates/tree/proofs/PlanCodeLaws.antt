@@ -25,7 +25,7 @@ spelled-path none r e = rw e refl
 -- gate 0's path in a plan without a fault
 pub record Fine0 (p : Plan) (r : Path) : Type 0 where
   pub number : r .number ≡ 0
-  pub length : r .length ≡ length (planPath p 0)
+  pub steps : r .length ≡ length (planPath p 0)
 
 module _ (p : Plan) (r : Path) (e : r ≡ pathAnswer p 0) where
   pub path-refused : planFault p ≡ 0 → Fine0 p r
@@ -34,7 +34,7 @@ module _ (p : Plan) (r : Path) (e : r ≡ pathAnswer p 0) where
       let w = fault-none p f in
       let a : pathAnswer p 0 ≡ record { number = 0; bits = bitsOf (planPath p 0); length = length (planPath p 0) } =
       rw (eq-eqb (planFault p) 0 f, lt-ltb 0 (p .«gate_count») (w .some-gates)) in
-      record { number = ap (λ (z : Path). z .number) (e ∙ a); length = ap (λ (z : Path). z .length) (e ∙ a) }
+      record { number = ap (λ (z : Path). z .number) (e ∙ a); steps = ap (λ (z : Path). z .length) (e ∙ a) }
 
   pub path-fine : r .number ≡ 0 → planFault p ≡ 0
   unfolding pathAnswer

@@ -27,7 +27,7 @@ unfolding tableIdAnswer
 returns-2 c =
     let s = c .before .before .before .before .before .args .self in
     let f = path-fine s (c .before .before .before .before .path .result) (c .before .before .before .before .path .ensures) (c .before .before .if1 .left) in
-    rw (eq-eqb (planFault s) 0 f, eq-eqb (modeOf (s .lookup)) 2 (sym (c .before .mode .ensures) ∙ c .if2 .taken), ← path-refused s (c .before .before .before .before .path .result) (c .before .before .before .before .path .ensures) f .length) refl
+    rw (eq-eqb (planFault s) 0 f, eq-eqb (modeOf (s .lookup)) 2 (sym (c .before .mode .ensures) ∙ c .if2 .taken), ← path-refused s (c .before .before .before .before .path .result) (c .before .before .before .before .path .ensures) f .steps) refl
 
 returns-3 : tie.Need-returns-3
 unfolding tableIdAnswer
