@@ -1,7 +1,7 @@
 -- The claim over every list of calls: 01's words on circuits, path products and entries, then what holds of the columns after the list.
 -- Fillings and PLONK's permutation are in `pieces`, Permutation; calls, their numbers and what they write in `pieces`, Calls.
 --
--- Main definitions: `Circuit`, `circuit`, `Finishes`, `product`, `RowOf`, `Stands`, `Has`, `Right`, `SameColumns`.
+-- Main definitions: `Circuit`, `circuit`, `Finishes`, `product`, `RowOf`, `Stands`, `Has`, `Right`, `SameColumns`, `Obeys`, `Opened`, `Claim`.
 use mathlib.Core.Path.{_≡_}
 use mathlib.Core.Logic.{_≢_, _↔_, _⊎_}
 use mathlib.Core.Bool.{true, false}
@@ -11,10 +11,16 @@ use lib.ListN.{length, getD, take}
 use lib.Dec.{eqb}
 use Rattle.base.specs.Pick.{pick}
 use Rattle.field.specs.Field.{p, fmul, fsub}
-use Rattle.pieces.specs.Setting.{Setting, Store, Held, constantRoom, copyRoom, tableRoom, specialRoom}
+use Rattle.tree.specs.Plan.{planNumber, planned, planAnswer}
+use Rattle.tree.specs.declared.parameters.Parameters.{Parameters}
+use Rattle.tree.specs.declared.plan.Plan.{Plan}
+use Rattle.pieces.specs.Setting.{Setting, State, Store, Held, constantRoom, copyRoom, tableRoom, specialRoom}
+use Rattle.pieces.specs.Opening.{openNumber, openState, fresh}
 use Rattle.pieces.specs.Records.{Read, whole, cut, rowsOf, tablesOf}
-use Rattle.pieces.specs.Calls.{Call, rows, sWords, cellWords, tableWords, finishing, number, after}
+use Rattle.pieces.specs.Calls.{Call, rows, sWords, cellWords, tableWords, finishing, number, after, run}
 use Rattle.pieces.specs.Permutation.{Permutation}
+use Rattle.columns.specs.Intake.{settingOf, withState, openAnswer, openLeft, rowsAnswer, rowsLeft, sWordsAnswer, sWordsLeft, cellsAnswer, cellsLeft, tablesAnswer, tablesLeft, finishAnswer, finishLeft}
+use Rattle.columns.specs.declared.intake.Taken.{Taken}
 
 -- "The whole circuit of a list of calls is the parameters and gates given to planning and, for rows, S words, cells and tables each,
 -- the words of that section's accepted pieces, put end to end in the order of the calls." These are the words.
@@ -129,3 +135,67 @@ pub record Right (x : Setting) (k : Circuit) (s : Store) : Type 1 where
   -- "An entry with a nonzero table number stands in the table columns exactly when the table of that number has it."
   pub entry : x .lookup ≡ true → (ws : List ℕ) (t : ℕ) → length ws ≡ x .width → t ≢ 0
       → Stands x (s .tables) ws t ↔ Has x (k .tablesGiven) ws t
+
+-- a number and the state that goes with it, as a call's function answers them
+abbrev pub told : Plan → ℕ → State → Taken
+told q n t = record { number = n; state = withState q t }
+
+-- "planning, opening and every call answer and write by 01's rules": the answer and the buffers in the contract of the call's function, for the
+-- plan q and what is held, are the call's number and what is held after it
+abbrev pub Obeys : Plan → Call → Held → Type 0
+Obeys q (rows ws) h =
+    (rowsAnswer (withState q (h .state)) ws (h .store .constants) ≡ told q (number (settingOf q) (rows ws) h) (after (settingOf q) (rows ws) h .state))
+    × (rowsLeft (withState q (h .state)) ws (h .store .constants) ≡ after (settingOf q) (rows ws) h .store .constants)
+Obeys q (sWords ws) h =
+    (sWordsAnswer (withState q (h .state)) ws (h .store .constants) ≡ told q (number (settingOf q) (sWords ws) h) (after (settingOf q) (sWords ws) h .state))
+    × (sWordsLeft (withState q (h .state)) ws (h .store .constants) ≡ after (settingOf q) (sWords ws) h .store .constants)
+Obeys q (cellWords ws) h =
+    (cellsAnswer (withState q (h .state)) ws (h .store .cells) ≡ told q (number (settingOf q) (cellWords ws) h) (after (settingOf q) (cellWords ws) h .state))
+    × (cellsLeft (withState q (h .state)) ws (h .store .cells) ≡ after (settingOf q) (cellWords ws) h .store .cells)
+Obeys q (tableWords ws) h =
+    (tablesAnswer (withState q (h .state)) ws (h .store .tables) ≡ told q (number (settingOf q) (tableWords ws) h) (after (settingOf q) (tableWords ws) h .state))
+    × (tablesLeft (withState q (h .state)) ws (h .store .tables) ≡ after (settingOf q) (tableWords ws) h .store .tables)
+Obeys q finishing h =
+    (finishAnswer (withState q (h .state)) (h .store .cells) ≡ told q (number (settingOf q) finishing h) (after (settingOf q) finishing h .state))
+    × (finishLeft (withState q (h .state)) (h .store .cells) ≡ after (settingOf q) finishing h .store .cells .copies)
+
+-- "alike in their whole circuit": parameters, gates, and the words of the accepted pieces
+pub record Whole : Type 0 where
+  pub parameters : Parameters
+  pub gates : List ℕ
+  pub words : Circuit
+
+abbrev pub settingFor : Parameters → List ℕ → Setting
+settingFor ps gs = settingOf (planned ps gs)
+
+abbrev pub wholeOf : Parameters → List ℕ → Store → List Call → Whole
+wholeOf ps gs b cs = record { parameters = ps; gates = gs; words = circuit (settingFor ps gs) cs (fresh (settingFor ps gs) b) }
+
+-- "A fresh opening is an accepted one with the plan that planning gave, whatever its buffers held."
+pub record Opened (ps : Parameters) (gs : List ℕ) (b : Store) : Type 0 where
+  pub planning : planNumber ps gs ≡ 0
+  pub opening : openNumber (settingFor ps gs) b ≡ 0
+
+-- what is held after the whole list of calls from that opening on
+abbrev pub held : Parameters → List ℕ → Store → List Call → Held
+held ps gs b cs = run (settingFor ps gs) cs (fresh (settingFor ps gs) b)
+
+-- a finishing in that list was accepted
+abbrev pub Finished : Parameters → List ℕ → Store → List Call → Type 0
+Finished ps gs b cs = Finishes (settingFor ps gs) cs (fresh (settingFor ps gs) b)
+
+-- THE CLAIM, for all parameter words, gate words, lent buffers and lists of calls; `Theorem` proves it where planning and opening accepted.
+pub record Claim (ps : Parameters) (gs : List ℕ) (b : Store) (cs : List Call) : Type 1 where
+  -- planning answers with the plan that the rules fix
+  pub planning : planAnswer ps gs ≡ record { number = 0; plan = planned ps gs }
+  -- the opening leaves the fresh columns and an open state
+  pub opened : (openAnswer (planned ps gs) b ≡ told (planned ps gs) 0 openState) × (openLeft (planned ps gs) b ≡ fresh (settingFor ps gs) b .store)
+  -- every call, whatever is held, answers and writes by 01's rules
+  pub obeys : (c : Call) (h : Held) → Obeys (planned ps gs) c h
+  -- if a finishing was accepted, the columns after the whole list are right for its circuit
+  pub columns : Finished ps gs b cs → Right (settingFor ps gs) (wholeOf ps gs b cs .words) (held ps gs b cs .store)
+  -- "Any two such lists, both with an accepted finishing and alike in their whole circuit, leave the same words in all constant, copy and table columns."
+  pub alike : Finished ps gs b cs → (ps' : Parameters) (gs' : List ℕ) (b' : Store) (cs' : List Call) → Opened ps' gs' b' → Finished ps' gs' b' cs'
+      → wholeOf ps gs b cs ≡ wholeOf ps' gs' b' cs' → SameColumns (settingFor ps gs) (held ps gs b cs .store) (held ps' gs' b' cs' .store)
+  -- after any list of calls from a fresh opening on, no finishing is refused with 18
+  pub no-18 : number (settingFor ps gs) finishing (held ps gs b cs) ≢ 18

@@ -1,7 +1,6 @@
--- THE CLAIM: over all parameter words, gate words, lent buffers and lists of calls.
+-- The claim of `Statement`, proved over all parameter words, gate words, lent buffers and lists of calls. It assumes only that planning and opening accepted.
 --
--- `Obeys` says that a call answers and writes by 01's rules: what the contract of its function cites is what `number` and `after` say. `Claim` is what holds of a
--- list of calls, refused ones among them, from a fresh opening on. `claim` proves it, and assumes only that planning and opening accepted.
+-- Main statement: `claim`.
 use mathlib.Core.Path.{_≡_, refl, sym, ap, subst}
 use mathlib.Core.Logic.{_≢_}
 use mathlib.Core.List.{List}
@@ -22,71 +21,10 @@ use Rattle.pieces.specs.Opening.{roomToOpen, openNumber, openStore, openState, 
 use Rattle.pieces.specs.Calls.{Call, rows, sWords, cellWords, tableWords, finishing, number, taken, after, run}
 use Rattle.columns.specs.Intake.{settingOf, withState, answered, unlessRefused, openAnswer, openLeft, rowsAnswer, rowsLeft, sWordsAnswer, sWordsLeft, cellsAnswer, cellsLeft, tablesAnswer, tablesLeft, finishAnswer, finishLeft}
 use Rattle.columns.specs.declared.intake.Taken.{Taken}
-use Rattle.claim.specs.Statement.{Circuit, circuit, Finishes, SameColumns, Right}
+use Rattle.claim.specs.Statement.{circuit, Finishes, SameColumns, told, Obeys, Whole, settingFor, wholeOf, Opened, held, Finished, Claim}
 use Rattle.claim.specs.Planned.{Planned}
 use Rattle.claim.specs.FromPlan.{planned-setting}
 use Rattle.claim.specs.Parts.{right, same, never-18}
-
--- a number and the state that goes with it, as a call's function answers them
-abbrev pub told : Plan → ℕ → State → Taken
-told q n t = record { number = n; state = withState q t }
-
--- "planning, opening and every call answer and write by 01's rules": the answer and the buffers in the contract of the call's function, for the
--- plan q and what is held, are the call's number and what is held after it
-abbrev pub Obeys : Plan → Call → Held → Type 0
-Obeys q (rows ws) h =
-    (rowsAnswer (withState q (h .state)) ws (h .store .constants) ≡ told q (number (settingOf q) (rows ws) h) (after (settingOf q) (rows ws) h .state))
-    × (rowsLeft (withState q (h .state)) ws (h .store .constants) ≡ after (settingOf q) (rows ws) h .store .constants)
-Obeys q (sWords ws) h =
-    (sWordsAnswer (withState q (h .state)) ws (h .store .constants) ≡ told q (number (settingOf q) (sWords ws) h) (after (settingOf q) (sWords ws) h .state))
-    × (sWordsLeft (withState q (h .state)) ws (h .store .constants) ≡ after (settingOf q) (sWords ws) h .store .constants)
-Obeys q (cellWords ws) h =
-    (cellsAnswer (withState q (h .state)) ws (h .store .cells) ≡ told q (number (settingOf q) (cellWords ws) h) (after (settingOf q) (cellWords ws) h .state))
-    × (cellsLeft (withState q (h .state)) ws (h .store .cells) ≡ after (settingOf q) (cellWords ws) h .store .cells)
-Obeys q (tableWords ws) h =
-    (tablesAnswer (withState q (h .state)) ws (h .store .tables) ≡ told q (number (settingOf q) (tableWords ws) h) (after (settingOf q) (tableWords ws) h .state))
-    × (tablesLeft (withState q (h .state)) ws (h .store .tables) ≡ after (settingOf q) (tableWords ws) h .store .tables)
-Obeys q finishing h =
-    (finishAnswer (withState q (h .state)) (h .store .cells) ≡ told q (number (settingOf q) finishing h) (after (settingOf q) finishing h .state))
-    × (finishLeft (withState q (h .state)) (h .store .cells) ≡ after (settingOf q) finishing h .store .cells .copies)
-
--- "alike in their whole circuit": parameters, gates, and the words of the accepted pieces
-pub record Whole : Type 0 where
-  pub parameters : Parameters
-  pub gates : List ℕ
-  pub words : Circuit
-
-abbrev pub settingFor : Parameters → List ℕ → Setting
-settingFor ps gs = settingOf (planned ps gs)
-
-abbrev pub wholeOf : Parameters → List ℕ → Store → List Call → Whole
-wholeOf ps gs b cs = record { parameters = ps; gates = gs; words = circuit (settingFor ps gs) cs (fresh (settingFor ps gs) b) }
-
--- "A fresh opening is an accepted one with the plan that planning gave, whatever its buffers held."
-pub record Opened (ps : Parameters) (gs : List ℕ) (b : Store) : Type 0 where
-  pub planning : planNumber ps gs ≡ 0
-  pub opening : openNumber (settingFor ps gs) b ≡ 0
-
--- what is held after the whole list of calls from that opening on
-abbrev pub held : Parameters → List ℕ → Store → List Call → Held
-held ps gs b cs = run (settingFor ps gs) cs (fresh (settingFor ps gs) b)
-
--- a finishing in that list was accepted
-abbrev pub Finished : Parameters → List ℕ → Store → List Call → Type 0
-Finished ps gs b cs = Finishes (settingFor ps gs) cs (fresh (settingFor ps gs) b)
-
-pub record Claim (ps : Parameters) (gs : List ℕ) (b : Store) (cs : List Call) : Type 1 where
-  -- the opening leaves the fresh columns and an open state
-  pub opened : (openAnswer (planned ps gs) b ≡ told (planned ps gs) 0 openState) × (openLeft (planned ps gs) b ≡ fresh (settingFor ps gs) b .store)
-  -- every call, whatever is held, answers and writes by 01's rules
-  pub obeys : (c : Call) (h : Held) → Obeys (planned ps gs) c h
-  -- if a finishing was accepted, the columns after the whole list are right for its circuit
-  pub columns : Finished ps gs b cs → Right (settingFor ps gs) (wholeOf ps gs b cs .words) (held ps gs b cs .store)
-  -- "Any two such lists, both with an accepted finishing and alike in their whole circuit, leave the same words in all constant, copy and table columns."
-  pub alike : Finished ps gs b cs → (ps' : Parameters) (gs' : List ℕ) (b' : Store) (cs' : List Call) → Opened ps' gs' b' → Finished ps' gs' b' cs'
-      → wholeOf ps gs b cs ≡ wholeOf ps' gs' b' cs' → SameColumns (settingFor ps gs) (held ps gs b cs .store) (held ps' gs' b' cs' .store)
-  -- after any list of calls from a fresh opening on, no finishing is refused with 18
-  pub no-18 : number (settingFor ps gs) finishing (held ps gs b cs) ≢ 18
 
 -- ---- every call obeys
 told-by : (q : Plan) (n : ℕ) (s t : State) (a b : Held) → a .state ≡ t → b .state ≡ s → answered n (withState q s) t ≡ told q n (pick (eqb n 0) a b .state)
@@ -140,6 +78,7 @@ opened-by q b e = (rw (eq-eqb (openNumber (settingOf q) b) 0 e), rw (eq-eqb (ope
 pub claim : (ps : Parameters) (gs : List ℕ) (b : Store) (cs : List Call) → Opened ps gs b → Claim ps gs b cs
 claim ps gs b cs o =
     record {
+      planning = rw (o .planning) refl;
       opened = opened-by (planned ps gs) b (o .opening);
       obeys = all-obey (planned ps gs);
       columns = right (settingFor ps gs) (planned-fits ps gs b o) b cs;
