@@ -24,13 +24,13 @@ use Rattle.pieces.specs.Cells.{cellsRun, cellsNumber}
 use Rattle.pieces.specs.Tables.{tableLines, tablesNumber, tablesWritten, stackOf}
 use Rattle.pieces.specs.Finishing.{allUsed, scratchFine, finishNumber}
 use Rattle.pieces.specs.Calls.{Call, rows, sWords, cellWords, tableWords, finishing, number, taken, after, run}
-use Rattle.pieces.specs.Permutation.{ended}
 use Rattle.pieces.specs.RecordLaws.{Each, each-append}
 use Rattle.pieces.specs.CellLaws.{run-append}
 use Rattle.pieces.specs.FaultLaws.{rows-room, words-room, tables-room}
 use Rattle.pieces.specs.ClosedForms.{GoodRow, GoodTable, GoodCell, good-rows, good-tables, good-cells, rows-append, tables-append, stacks-append, stacks-many, Consts, Tabled, rows-consts, words-consts, tables-tabled, fresh-consts, fresh-tabled}
 use Rattle.pieces.specs.NumberLaws.{Stood, rows-accepted, words-accepted, cells-accepted, tables-accepted, finish-accepted}
 use Rattle.claim.specs.Statement.{Circuit, nothing, pieceOf, adds, join, circuit, Finishes}
+use Rattle.claim.specs.PermutationLaws.{ended}
 
 -- after an accepted finishing: everything is complete, and the copy columns are those of all cell words
 pub record Closed (x : Setting) (b : Store) (R S C : List ℕ) (h : Held) : Type 0 where

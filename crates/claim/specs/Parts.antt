@@ -25,13 +25,12 @@ use Rattle.pieces.specs.Cells.{placeholder, indexOf, cellsRun, roomForCells}
 use Rattle.pieces.specs.Finishing.{variableFine, scratchFine, complete, allUsed, finishNumber}
 use Rattle.pieces.specs.Tables.{entries, tableEntries, tableLines}
 use Rattle.pieces.specs.Calls.{Call, finishing, number, run}
-use Rattle.pieces.specs.Permutation.{Names, Gap, Before, Permutation, ended}
 use Rattle.pieces.specs.WriteLaws.{Reads, padded-length, padded-at}
 use Rattle.pieces.specs.RecordLaws.{Each, each-at, Sized, read-sized}
 use Rattle.pieces.specs.CellLaws.{run-copies, finish-length, every-all}
-use Rattle.pieces.specs.PermutationLaws.{Opened, permutes, scratch-holds}
 use Rattle.pieces.specs.ClosedForms.{GoodRow, GoodTable, GoodCell, entries-many, Consts, Tabled}
-use Rattle.claim.specs.Statement.{Circuit, circuit, Finishes, product, factor, wordAt, noughts, RowOf, Stands, Has, SameColumns, Right}
+use Rattle.claim.specs.Statement.{Circuit, circuit, Finishes, Names, Gap, Before, Permutation, product, factor, wordAt, noughts, RowOf, Stands, Has, SameColumns, Right}
+use Rattle.claim.specs.PermutationLaws.{ended, Prepared, permutes, scratch-holds}
 use Rattle.claim.specs.Planned.{Part, Digits, Planned}
 use Rattle.pieces.specs.NumberLaws.{stood}
 use Rattle.claim.specs.Invariant.{Closed, Inv, open-cells, whole-inv, whole-closed}
@@ -100,7 +99,7 @@ module _ (x : Setting) (pl : Planned x) (b : Cols) (W : List ℕ) (good : Each (
   injective : (i j : ℕ) → i < length W → j < length W → getD (x .labels) i 0 ≡ getD (x .labels) j 0 → i ≡ j
   injective i j hi hj = pl .labels-distinct i j (omega arith) (omega arith)
 
-  opens : Opened W (x .labels) (x .variables) (openCells x b)
+  opens : Prepared W (x .labels) (x .variables) (openCells x b)
   opens =
       record {
         cells = omega (arith, pl .all-labels, length-append (x .labels) (drop (copyRoom x) (b .copies)));
@@ -161,11 +160,6 @@ factor-other (suc zero) (suc zero) a b n = absurd (n refl)
 factor-other (suc zero) (suc (suc e)) a b n = absurd (omega arith)
 factor-other (suc (suc d)) e a b n = absurd (omega arith)
 
-pub spelled-own : (word : ℕ → ℕ) (ds : List ℕ) (c : ℕ) → Digits ds → Spells word ds c → product ds word c ≡ 1
-unfolding product
-spelled-own word [] c g s = refl
-spelled-own word (d ∷ ds) c (h, g) (e, s) = rw (e, factor-own d h, spelled-own word ds (suc c) g s)
-
 pub spelled-other : (word : ℕ → ℕ) (ds es : List ℕ) (c : ℕ) → Digits ds → Digits es → Part ds es → Spells word ds c → product es word c ≡ 0
 unfolding product
 spelled-other word [] es c g k a s = absurd a
@@ -173,6 +167,11 @@ spelled-other word (d ∷ ds) [] c g k a s = absurd a
 spelled-other word (d ∷ ds) (e ∷ es) c (hd, g) (he, k) (inl n) (q, s) = rw (q, factor-other d e hd he n, zero-mul (product es word (suc c)))
 spelled-other word (d ∷ ds) (e ∷ es) c (hd, g) (he, k) (inr a) (q, s) =
     rw (spelled-other word ds es (suc c) g k a s, mul-zero (factor e (word c)))
+
+pub spelled-own : (word : ℕ → ℕ) (ds : List ℕ) (c : ℕ) → Digits ds → Spells word ds c → product ds word c ≡ 1
+unfolding product
+spelled-own word [] c g s = refl
+spelled-own word (d ∷ ds) c (h, g) (e, s) = rw (e, factor-own d h, spelled-own word ds (suc c) g s)
 
 noughts-bit : (ds : List ℕ) → noughts ds < 2
 unfolding noughts

@@ -12,8 +12,6 @@ pub mod Calls
 pub mod WriteLaws
 pub mod RecordLaws
 pub mod CellLaws
-pub mod Permutation
-pub mod PermutationLaws
 pub mod FaultLaws
 pub mod ClosedForms
 pub mod NumberLaws

@@ -2,7 +2,7 @@
 --
 -- The idea: after k cell words each variable is unseen, or its first cell is a, its value is the label of its last cell b, and each of its cells but a holds the
 -- label of the one before. Finishing gives a the label of b.
--- Main definitions: `Seen`, `Unseen`, `Inv`, `Opened`, `Link`. Main statements: `permutes`, `scratch-holds`.
+-- Main definitions: `Seen`, `Unseen`, `Inv`, `Prepared`, `Link`. Main statements: `permutes`, `scratch-holds`.
 use mathlib.Core.Path.{_≡_, refl, sym, ap, _∙_}
 use mathlib.Core.Logic.{_≢_, _↔_, _⊎_, inl, inr, ⊎-elim}
 use mathlib.Core.List.{List, [], _∷_}
@@ -12,11 +12,15 @@ use native.Mathlib.Decide.{ℕ-discrete, decLt}
 use native.Mathlib.Omega.{arith}
 use lib.ListN.{length, getD, set, drop, length-set, length-drop}
 use lib.Seq.{getD-set-same, getD-set-other, drop-cons}
 use Rattle.pieces.specs.Setting.{Cols, cols}
 use Rattle.pieces.specs.Cells.{placeholder, indexOf, value, first, firstSeen, seenAgain, placeCell, cellsRun}
 use Rattle.pieces.specs.Finishing.{writeBack, finishFrom}
 use Rattle.pieces.specs.CellLaws.{place-skip, place-first, place-again, write-none, write-one, write-length}
-use Rattle.pieces.specs.Permutation.{Names, Gap, Keeps, Agrees, Leads, Reaches, here, on, Before, Permutation, ended}
+use Rattle.claim.specs.Statement.{Names, Gap, Keeps, Agrees, Leads, Reaches, here, on, Before, Permutation}
+
+-- the copy columns after all cell words W and finishing, for M variables, from the columns and scratch s
+unfoldable pub ended : List ℕ → ℕ → Cols → List ℕ
+ended W M s = finishFrom 0 M (cellsRun 0 W s .scratch) (cellsRun 0 W s .copies)
 
 names-one : (W : List ℕ) (i u v : ℕ) → Names W i u → Names W i v → u ≡ v
 names-one W i u v p q = cc
@@ -213,13 +217,13 @@ finish-at (suc m) v u scr C a b z l h =
     go (no d) r = r (omega arith)
 
 -- the labels stand in the copies, and no variable is seen
-pub record Opened (W L : List ℕ) (M : ℕ) (s : Cols) : Type 0 where
+pub record Prepared (W L : List ℕ) (M : ℕ) (s : Cols) : Type 0 where
   pub cells : length W ≤ length (s .copies)
   pub room : 2 * M ≤ length (s .scratch)
   pub labels : (i : ℕ) → i < length W → getD (s .copies) i 0 ≡ getD L i 0
   pub zeros : (v : ℕ) → v < M → value s v ≡ 0
 
-opened-inv : (W L : List ℕ) (M : ℕ) (s : Cols) → Opened W L M s → Inv W L M 0 s
+opened-inv : (W L : List ℕ) (M : ℕ) (s : Cols) → Prepared W L M s → Inv W L M 0 s
 opened-inv W L M s o =
     record { cells = o .cells; room = o .room; rest = λ i _ h. o .labels i h; still = λ i h _. o .labels i h; vars = λ v h. inl (record { zeroed = o .zeros v h; none = λ i p _. omega arith }) }
 
@@ -231,7 +235,7 @@ pub record Link (W L C : List ℕ) (a v i : ℕ) : Type 0 where
   pub falls : ((i ≡ a) × ((j : ℕ) → j < i → Names W j v → ⊥) × Gap W v to (length W)) ⊎ ((to < i) × Gap W v to i)
 
 module _ (W L : List ℕ) (M : ℕ) (s : Cols) (range : (i v : ℕ) → Names W i v → v < M) (nonzero : (i : ℕ) → i < length W → getD L i 0 ≢ 0)
-    (injective : (i j : ℕ) → i < length W → j < length W → getD L i 0 ≡ getD L j 0 → i ≡ j) (opened : Opened W L M s) where
+    (injective : (i j : ℕ) → i < length W → j < length W → getD L i 0 ≡ getD L j 0 → i ≡ j) (opened : Prepared W L M s) where
   abbrev t : Cols
   t = cellsRun 0 W s
 
@@ -323,7 +327,7 @@ last-step n L C i j (on a k b l r) = go (last-step n L C k b r)
     go (inr q) = inr q
 
 module _ (W L : List ℕ) (M : ℕ) (s : Cols) (range : (i v : ℕ) → Names W i v → v < M) (nonzero : (i : ℕ) → i < length W → getD L i 0 ≢ 0)
-    (injective : (i j : ℕ) → i < length W → j < length W → getD L i 0 ≡ getD L j 0 → i ≡ j) (opened : Opened W L M s) where
+    (injective : (i j : ℕ) → i < length W → j < length W → getD L i 0 ≡ getD L j 0 → i ≡ j) (opened : Prepared W L M s) where
   abbrev n : ℕ
   n = length W
 
