@@ -49,7 +49,7 @@ fn main() {
     let mut buffer = [0u8; 131072];
     let length = io::read_full(0, &mut buffer);
     let bytes = &buffer[..length];
-    let count = replay::word_at(bytes, 2);
+    let count = bytes::words::word_at(bytes, 2);
     let s = replay_records(bytes, Replay::new().step().step().step(), count);
     line(b"records ", count);
     line(b"words ", s.at);

@@ -102,12 +102,12 @@ fn main() {
     let mut buffer = io::large_buffer();
     let length = io::read_full(0, &mut buffer);
     let bytes = &buffer[..length];
-    let accepted = replay::word_at(bytes, 2);
-    let refused = replay::word_at(bytes, 3);
+    let accepted = bytes::words::word_at(bytes, 2);
+    let refused = bytes::words::word_at(bytes, 3);
     let records = Replay::new().step().step().step().step();
     let taken = replay_accepted_records(bytes, records, accepted);
     let all = replay_refused_records(bytes, taken, refused);
-    let version = all.note(replay::word_at(bytes, 0) == 1);
+    let version = all.note(bytes::words::word_at(bytes, 0) == 1);
     let s = version
         .note(length / 8 == all.at as usize)
         .note(length % 8 == 0);

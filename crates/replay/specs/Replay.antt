@@ -1,24 +1,13 @@
--- Words from little-endian bytes, and the counts of a replay.
+-- The counts of a replay.
 --
--- Main definitions: `wordAt`, `started`, `stepped`, `noted`, `compared`.
+-- Main definitions: `started`, `stepped`, `noted`, `compared`.
 use mathlib.Core.Bool.{Bool}
 use mathlib.Core.List.{List}
-use Prim.Native.Nat.{ℕ, _+_, _*_, _/_}
-use lib.Dec.{ltb, leb, eqb}
-use lib.ListN.{length, getD}
+use Prim.Native.Nat.{ℕ, _+_}
+use lib.Dec.{ltb, eqb}
 use Rattle.base.specs.Pick.{pick}
+use Rattle.bytes.specs.Words.{wordAt}
 use Rattle.replay.specs.declared.Replay.{Replay}
-
--- two bytes, the lower first
-abbrev pub pair : List ℕ → ℕ → ℕ → ℕ
-pair bytes i j = getD bytes i 0 + 256 * getD bytes j 0
-
--- the word number i, 0 where its eight bytes are not all there
-abbrev pub wordAt : List ℕ → ℕ → ℕ
-wordAt bytes i =
-    pick (leb (length bytes / 8) i) 0
-    (pair bytes (i * 8) (i * 8 + 1)
-    + 65536 * (pair bytes (i * 8 + 2) (i * 8 + 3) + 65536 * (pair bytes (i * 8 + 4) (i * 8 + 5) + 65536 * pair bytes (i * 8 + 6) (i * 8 + 7))))
 
 -- one more, up to a limit
 abbrev pub up : ℕ → ℕ

@@ -1,34 +1,9 @@
-// What programs that replay recorded answers share: words read from little-endian bytes, one after
-// the other, and a count of the comparisons made and of those that failed.
+// What programs that replay recorded answers share: words read one after the other, and a count of
+// the comparisons made and of those that failed.
 ghost use mathlib.Core.Path.{_≡_};
-ghost use Prim.Native.Nat.{ℕ, _<_};
-ghost use lib.ListN.{getD};
-ghost use Rattle.replay.specs.Replay.{wordAt, started, stepped, compared, noted};
-
-// The byte at a place, 0 past the end.
-fn byte_at(bytes: &[u8], at: usize) -> u64
-    ensures { λ r. ⌜ (r ≡ getD (now (bytes .entry)) at 0) × (r < 256) ⌝ }
-{
-    if at < bytes.len() {
-        return bytes[at] as u64;
-    }
-    0
-}
-
-// The little-endian word number `index`, 0 where its eight bytes are not all there.
-pub fn word_at(bytes: &[u8], index: usize) -> u64
-    ensures { λ r. ⌜ r ≡ wordAt (now (bytes .entry)) index ⌝ }
-{
-    if bytes.len() / 8 <= index {
-        return 0;
-    }
-    let at = index * 8;
-    let a = byte_at(bytes, at) + 256 * byte_at(bytes, at + 1);
-    let b = byte_at(bytes, at + 2) + 256 * byte_at(bytes, at + 3);
-    let c = byte_at(bytes, at + 4) + 256 * byte_at(bytes, at + 5);
-    let d = byte_at(bytes, at + 6) + 256 * byte_at(bytes, at + 7);
-    a + 65536 * (b + 65536 * (c + 65536 * d))
-}
+ghost use Rattle.bytes.specs.Words.{wordAt};
+ghost use Rattle.replay.specs.Replay.{started, stepped, compared, noted};
+use bytes::words::word_at;
 
 // No recording and no run comes near it: a count stays there.
 const LIMIT: u64 = 1000000000;

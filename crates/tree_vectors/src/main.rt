@@ -210,11 +210,11 @@ fn main() {
     let mut buffer = space();
     let length = io::read_full(0, &mut buffer);
     let bytes = &buffer[..length];
-    let plans = replay::word_at(bytes, 2);
-    let made_up = replay::word_at(bytes, 3);
+    let plans = bytes::words::word_at(bytes, 2);
+    let made_up = bytes::words::word_at(bytes, 3);
     let records = Replay::new().step().step().step().step();
     let all = replay_made_up_plans(bytes, replay_plans(bytes, records, plans), made_up);
-    let version = all.note(replay::word_at(bytes, 0) == 1);
+    let version = all.note(bytes::words::word_at(bytes, 0) == 1);
     let s = version
         .note(length / 8 == all.at as usize)
         .note(length % 8 == 0);

@@ -1,11 +1,11 @@
--- `replay::word_at` meets its contract: the bytes are those of the definition, and each is below 256.
+-- `bytes::words::word_at` meets its contract: the bytes are those of the definition, and each is below 256.
 -- Assumes nothing.
 use borrow.Author.Needs.{needs}
 use borrow.Author.Tests.{le-leb, lt-leb}
 use native.Mathlib.Omega.{arith}
 use borrow.Author.Needs.{needs}
-use Rattle.replay.proofs.word_at.Statement.{statement}
-use Rattle.replay.proofs.word_at.Tie as tie
+use Rattle.bytes.proofs.words.word_at.Statement.{statement}
+use Rattle.bytes.proofs.words.word_at.Tie as tie
 
 returns : tie.Need-returns
 returns c = simp (le-leb _ _ (c .if1 .taken))

@@ -1,12 +1,12 @@
--- `replay::byte_at` meets its contract: an element of a slice of bytes is below 256, and past the end `getD` is 0.
+-- `bytes::words::byte_at` meets its contract: an element of a slice of bytes is below 256, and past the end `getD` is 0.
 -- Assumes nothing.
 use borrow.Author.Needs.{needs}
 use mathlib.Core.Path.{refl, sym}
 use native.Mathlib.Omega.{arith}
 use lib.ListN.{List·getD-eq-default}
 use borrow.Author.Needs.{needs}
-use Rattle.replay.proofs.byte_at.Statement.{statement}
-use Rattle.replay.proofs.byte_at.Tie as tie
+use Rattle.bytes.proofs.words.byte_at.Statement.{statement}
+use Rattle.bytes.proofs.words.byte_at.Tie as tie
 
 shared-slice-read-result : tie.Need-shared-slice-read-result
 shared-slice-read-result c = search needs
