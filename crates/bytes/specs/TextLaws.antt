@@ -117,3 +117,7 @@ fewest-decimal n r h f = ap (λ (k : ℕ). digits 10 k n) (go (decLt r (places 1
     go (yes a) b = absurd (fewest-one n r (places 19 n) f g a)
     go (no a) (yes b) = absurd (fewest-one n (places 19 n) r g f b)
     go (no a) (no b) = omega arith
+
+-- one text after another: what the second puts from where the first stopped, both put together
+pub then : (s t u : Sink) (a b : List ℕ) → t ≡ put s a → u ≡ put t b → u ≡ put s (a ++ b)
+then s t u a b e f = f ∙ ap (λ (v : Sink). put v b) e ∙ sym (put-append s a b)

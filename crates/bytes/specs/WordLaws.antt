@@ -2,7 +2,7 @@
 --
 -- Main statements: `words-filled` (a buffer filled to its last word or the bytes' last), `words-whole` (a buffer that takes them all begins with them).
 use mathlib.Core.Path.{_≡_, refl, sym, ap, _∙_}
-use mathlib.Core.List.{List, _++_}
+use mathlib.Core.List.{List, [], _∷_, _++_}
 use Prim.Native.Nat.{ℕ, _/_, _≤_, min}
 use native.Mathlib.Nat.{min-eq-left}
 use native.Mathlib.Omega.{arith}
@@ -24,3 +24,8 @@ words-whole bytes old h =
     let e : wordsRead bytes old ≡ length bytes / 8 = omega arith in
     take-at (table (wordsRead bytes old) (wordAt bytes)) (drop (wordsRead bytes old) old) (wordsRead bytes old) (table-length (wordsRead bytes old) (wordAt bytes))
     ∙ ap (λ (n : ℕ). table n (wordAt bytes)) e
+
+-- "Little-endian"
+worked : wordsOf (1 ∷ 2 ∷ 0 ∷ 0 ∷ 0 ∷ 0 ∷ 0 ∷ 0 ∷ 0 ∷ 0 ∷ 0 ∷ 0 ∷ 0 ∷ 0 ∷ 0 ∷ 128 ∷ 9 ∷ []) ≡ 513 ∷ 9223372036854775808 ∷ []
+unfolding table
+worked = refl

@@ -1,0 +1,3 @@
+-- 01, 'Listing': what the program `setup` prints.
+pub mod Report
+pub mod ReportLaws
