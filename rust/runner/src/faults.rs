@@ -48,7 +48,7 @@ fn reshape(r: &mut Random, table: &mut Vec<u64>) {
     table.resize(length as usize, 1);
 }
 
-fn fault(r: &mut Random, x: &mut Circuit) {
+pub fn fault(r: &mut Random, x: &mut Circuit) {
     match r.within(0, 9) {
         0 => {
             let place = r.within(0, 4) as usize;

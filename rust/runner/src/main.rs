@@ -6,6 +6,7 @@
 //!   runner exhaustive             all small gate lists
 //!   runner differences            what the Rust does with circuits that 01 turns down
 //!   runner faults COUNT SEED      COUNT circuits refused for one random fault
+//!   runner program PATH COUNT SEED  the built program on COUNT random inputs
 //!   runner record FOLDER SEED     write the recorded answers
 //!
 //! Built without the original (no cfg upstream) it has the first command alone.
@@ -29,7 +30,11 @@ mod figures;
 #[cfg(upstream)]
 mod generate;
 #[cfg(upstream)]
+mod listings;
+#[cfg(upstream)]
 mod pieces;
+#[cfg(upstream)]
+mod program;
 #[cfg(upstream)]
 mod random;
 #[cfg(upstream)]

@@ -3,6 +3,7 @@
 //! the formats. The same seed gives the same bytes.
 mod field;
 mod labels;
+mod listings;
 mod tree;
 
 pub const VERSION: u64 = 1;
@@ -18,4 +19,5 @@ pub fn run(folder: &str, seed: u64) {
     write(folder, "field", &field::record(seed));
     write(folder, "labels", &labels::record(seed));
     write(folder, "tree", &tree::record(seed));
+    write(folder, "listings", &listings::record(seed));
 }
