@@ -1,6 +1,6 @@
 -- Laws of where a listing's sections end.
 --
--- Main statements: `end-step`, `end-from`, `end-past`, `end-even` (n records end, one more); `found`, `missing`, `section-known`, `section-missing` (the two answers of a section);
+-- Main statements: `end-step`, `end-from`, `end-past`, `end-fixed` (n records end, one more); `found`, `missing`, `section-known`, `section-missing` (the two answers of a section);
 -- `wrong-count`, `late-..` and `found-whole` (the whole test, from the first section that is missing); `product-leb` (a product against a bound, by a division).
 use mathlib.Core.Path.{_≡_, refl, sym, ap, _∙_}
 use mathlib.Core.Logic.{_≢_}
@@ -16,7 +16,7 @@ use borrow.Author.Tests.{le-leb, lt-leb, eq-eqb, ne-eqb}
 use Rattle.selector.specs.Gates.{gateWords}
 use Rattle.pieces.specs.Records.{rowSize, tableSize}
 use Rattle.listing.specs.Listing.{parameterWords}
-use Rattle.listing.specs.Ends.{endOf, longAt, evenEnd, recordsEnd, part, sectionOf, sectionsAt, judged, listingFrom}
+use Rattle.listing.specs.Ends.{endOf, longAt, fixedEnd, recordsEnd, part, sectionOf, sectionsAt, judged, listingFrom}
 use Rattle.listing.specs.declared.sections.Part.{Part}
 use Rattle.listing.specs.declared.sections.Section.{Section}
 use Rattle.listing.specs.declared.sections.Section.the-variants.{Found, Missing}
@@ -46,16 +46,16 @@ module _ (size : ℕ → ℕ) where
   end-past n at h = omega (arith, end-step n at h, end-from (n - 1) (at + size at))
 
 -- records that are all as long
-pub end-even : (each n at : ℕ) → endOf (λ i. each) n at ≡ at + n * each
+pub end-fixed : (each n at : ℕ) → endOf (λ i. each) n at ≡ at + n * each
 unfolding endOf
-end-even each zero at = omega (arith, zero-mul each)
-end-even each (suc n) at = omega (arith, end-even each n (at + each), suc-mul n each)
+end-fixed each zero at = omega (arith, zero-mul each)
+end-fixed each (suc n) at = omega (arith, end-fixed each n (at + each), suc-mul n each)
 
 -- a section ends past its count
 module _ (xs : List ℕ) (at : ℕ) where
-  pub even-past : (each : ℕ) → at < evenEnd each xs at
-  unfolding evenEnd
-  even-past each = omega arith
+  pub fixed-past : (each : ℕ) → at < fixedEnd each xs at
+  unfolding fixedEnd
+  fixed-past each = omega arith
 
   pub records-past : (size : ℕ → ℕ → ℕ) → at < recordsEnd size xs at
   unfolding recordsEnd
@@ -142,11 +142,11 @@ module _ (size : ℕ → ℕ → ℕ) (xs : List ℕ) (at : ℕ) where
 -- ---- the whole test
 -- each section ends where the definition says
 pub record Ends (xs : List ℕ) (at g r s c t e : ℕ) : Type 0 where
-  pub parameters : g ≡ evenEnd 1 xs at
-  pub gates : r ≡ evenEnd gateWords xs g
+  pub parameters : g ≡ fixedEnd 1 xs at
+  pub gates : r ≡ fixedEnd gateWords xs g
   pub rows : s ≡ recordsEnd rowSize xs r
-  pub s-words : c ≡ evenEnd 1 xs s
-  pub cells : t ≡ evenEnd 1 xs c
+  pub s-words : c ≡ fixedEnd 1 xs s
+  pub cells : t ≡ fixedEnd 1 xs c
   pub tables : e ≡ recordsEnd tableSize xs t
 
 module _ (xs : List ℕ) (at g r s c t e : ℕ) where
@@ -172,32 +172,32 @@ module _ (xs : List ℕ) (at g r s c t e : ℕ) where
 
 -- the same from the first section that is missing: all later ones end still further on
 module _ (xs : List ℕ) (at : ℕ) where
-  abbrev ends : (g r s c t : ℕ) → g ≡ evenEnd 1 xs at → r ≡ evenEnd gateWords xs g → s ≡ recordsEnd rowSize xs r → c ≡ evenEnd 1 xs s → t ≡ evenEnd 1 xs c
+  abbrev ends : (g r s c t : ℕ) → g ≡ fixedEnd 1 xs at → r ≡ fixedEnd gateWords xs g → s ≡ recordsEnd rowSize xs r → c ≡ fixedEnd 1 xs s → t ≡ fixedEnd 1 xs c
       → Ends xs at g r s c t (recordsEnd tableSize xs t)
   ends g r s c t hg hr hs hc ht = record { parameters = hg; gates = hr; rows = hs; s-words = hc; cells = ht; tables = refl }
 
-  pub late-tables : (g r s c t : ℕ) → g ≡ evenEnd 1 xs at → r ≡ evenEnd gateWords xs g → s ≡ recordsEnd rowSize xs r → c ≡ evenEnd 1 xs s → t ≡ evenEnd 1 xs c
+  pub late-tables : (g r s c t : ℕ) → g ≡ fixedEnd 1 xs at → r ≡ fixedEnd gateWords xs g → s ≡ recordsEnd rowSize xs r → c ≡ fixedEnd 1 xs s → t ≡ fixedEnd 1 xs c
       → recordsEnd tableSize xs t ≢ length xs → Refused 20 ≡ listingFrom xs at
   late-tables g r s c t hg hr hs hc ht h =
       sym (listing-judged xs at g r s c t _ (ends g r s c t hg hr hs hc ht) ∙ judged-late xs at g r s c t (recordsEnd tableSize xs t) h)
 
-  pub late-cells : (g r s c : ℕ) → g ≡ evenEnd 1 xs at → r ≡ evenEnd gateWords xs g → s ≡ recordsEnd rowSize xs r → c ≡ evenEnd 1 xs s
-      → length xs < evenEnd 1 xs c → Refused 20 ≡ listingFrom xs at
-  late-cells g r s c hg hr hs hc h = late-tables g r s c (evenEnd 1 xs c) hg hr hs hc refl (λ z. omega (arith, records-past xs (evenEnd 1 xs c) tableSize))
+  pub late-cells : (g r s c : ℕ) → g ≡ fixedEnd 1 xs at → r ≡ fixedEnd gateWords xs g → s ≡ recordsEnd rowSize xs r → c ≡ fixedEnd 1 xs s
+      → length xs < fixedEnd 1 xs c → Refused 20 ≡ listingFrom xs at
+  late-cells g r s c hg hr hs hc h = late-tables g r s c (fixedEnd 1 xs c) hg hr hs hc refl (λ z. omega (arith, records-past xs (fixedEnd 1 xs c) tableSize))
 
-  pub late-s : (g r s : ℕ) → g ≡ evenEnd 1 xs at → r ≡ evenEnd gateWords xs g → s ≡ recordsEnd rowSize xs r → length xs < evenEnd 1 xs s → Refused 20 ≡ listingFrom xs at
-  late-s g r s hg hr hs h = late-cells g r s (evenEnd 1 xs s) hg hr hs refl (omega (arith, even-past xs (evenEnd 1 xs s) 1))
+  pub late-s : (g r s : ℕ) → g ≡ fixedEnd 1 xs at → r ≡ fixedEnd gateWords xs g → s ≡ recordsEnd rowSize xs r → length xs < fixedEnd 1 xs s → Refused 20 ≡ listingFrom xs at
+  late-s g r s hg hr hs h = late-cells g r s (fixedEnd 1 xs s) hg hr hs refl (omega (arith, fixed-past xs (fixedEnd 1 xs s) 1))
 
-  pub late-rows : (g r : ℕ) → g ≡ evenEnd 1 xs at → r ≡ evenEnd gateWords xs g → length xs < recordsEnd rowSize xs r → Refused 20 ≡ listingFrom xs at
-  late-rows g r hg hr h = late-s g r (recordsEnd rowSize xs r) hg hr refl (omega (arith, even-past xs (recordsEnd rowSize xs r) 1))
+  pub late-rows : (g r : ℕ) → g ≡ fixedEnd 1 xs at → r ≡ fixedEnd gateWords xs g → length xs < recordsEnd rowSize xs r → Refused 20 ≡ listingFrom xs at
+  late-rows g r hg hr h = late-s g r (recordsEnd rowSize xs r) hg hr refl (omega (arith, fixed-past xs (recordsEnd rowSize xs r) 1))
 
-  pub late-gates : (g : ℕ) → g ≡ evenEnd 1 xs at → length xs < evenEnd gateWords xs g → Refused 20 ≡ listingFrom xs at
-  late-gates g hg h = late-rows g (evenEnd gateWords xs g) hg refl (omega (arith, records-past xs (evenEnd gateWords xs g) rowSize))
+  pub late-gates : (g : ℕ) → g ≡ fixedEnd 1 xs at → length xs < fixedEnd gateWords xs g → Refused 20 ≡ listingFrom xs at
+  late-gates g hg h = late-rows g (fixedEnd gateWords xs g) hg refl (omega (arith, records-past xs (fixedEnd gateWords xs g) rowSize))
 
-  pub late-parameters : length xs < evenEnd 1 xs at → Refused 20 ≡ listingFrom xs at
-  late-parameters h = late-gates (evenEnd 1 xs at) refl (omega (arith, even-past xs (evenEnd 1 xs at) gateWords))
+  pub late-parameters : length xs < fixedEnd 1 xs at → Refused 20 ≡ listingFrom xs at
+  late-parameters h = late-gates (fixedEnd 1 xs at) refl (omega (arith, fixed-past xs (fixedEnd 1 xs at) gateWords))
 
-  pub wrong-count : (g : ℕ) → g ≡ evenEnd 1 xs at → g - (at + 1) ≢ parameterWords → Refused 20 ≡ listingFrom xs at
+  pub wrong-count : (g : ℕ) → g ≡ fixedEnd 1 xs at → g - (at + 1) ≢ parameterWords → Refused 20 ≡ listingFrom xs at
   wrong-count g hg h = sym (listing-judged xs at g _ _ _ _ _ (ends g _ _ _ _ hg refl refl refl refl) ∙ judged-count xs at g _ _ _ _ _ h)
 
   -- the parts that the sections' answers hold are the six

@@ -1,7 +1,7 @@
 -- 01, 'Listing', once more: where each section ends. The contracts are stated by these definitions; `ReaderLaws` proves that the words at these places are those
 -- that the reader of `Listing` gives.
 --
--- Main definitions: `evenEnd`, `recordsEnd` (where a section ends), `sectionOf`, `listingFrom` (the places of the sections, or refusal 20), `wordsAt`, `partsOf` (the words at these places).
+-- Main definitions: `fixedEnd`, `recordsEnd` (where a section ends), `sectionOf`, `listingFrom` (the places of the sections, or refusal 20), `wordsAt`, `partsOf` (the words at these places).
 --
 -- All numbers are whole numbers, so nothing wraps. A word past the end counts as 0: each count and each record's head stands before the place where its section ends,
 -- so a listing with a word missing ends past its last word, and just the whole ones end where the words end.
@@ -30,8 +30,8 @@ abbrev pub longAt : (ℕ → ℕ → ℕ) → List ℕ → ℕ → ℕ
 longAt size xs at = 2 + size (getD xs at 0) (getD xs (at + 1) 0)
 
 -- where a section ends whose count stands at a place: of records that are all as long, or of records that say their own length
-unfoldable pub evenEnd : ℕ → List ℕ → ℕ → ℕ
-evenEnd each xs at = at + 1 + getD xs at 0 * each
+unfoldable pub fixedEnd : ℕ → List ℕ → ℕ → ℕ
+fixedEnd each xs at = at + 1 + getD xs at 0 * each
 
 unfoldable pub recordsEnd : (ℕ → ℕ → ℕ) → List ℕ → ℕ → ℕ
 recordsEnd size xs at = endOf (longAt size xs) (getD xs at 0) (at + 1)
@@ -64,11 +64,11 @@ judged xs at g r s c t e =
 -- the sections of a listing that begins at a place
 unfoldable pub listingFrom : List ℕ → ℕ → Listing
 listingFrom xs at =
-    let g = evenEnd 1 xs at in
-    let r = evenEnd gateWords xs g in
+    let g = fixedEnd 1 xs at in
+    let r = fixedEnd gateWords xs g in
     let s = recordsEnd rowSize xs r in
-    let c = evenEnd 1 xs s in
-    let t = evenEnd 1 xs c in
+    let c = fixedEnd 1 xs s in
+    let t = fixedEnd 1 xs c in
     judged xs at g r s c t (recordsEnd tableSize xs t)
 
 -- the words that stand at a section's place

@@ -37,8 +37,8 @@ section long [] = none
 section long (n ∷ xs) = records long n xs
 
 -- parameters, S words and cell words are counted in words; "A gate is three words"
-abbrev pub even : ℕ → List ℕ → ℕ
-even each xs = each
+abbrev pub fixed : ℕ → List ℕ → ℕ
+fixed each xs = each
 
 -- "rows (gate, number of constants, constants)", "tables (width, rows, contents row by row)": two words and as many as they say. A word that is missing
 -- is read as 0 here: then the two words are not there, and the record is missing.
@@ -69,8 +69,12 @@ ended w rest = pick (eqb (length rest) 0) (some w) none
 -- "parameters ..; gates; rows ..; S words; cell words; tables .."
 unfoldable pub sixSections : List ℕ → Option Words
 sixSections xs =
-    bind (bind (section (even 1) xs) eight) (λ p. bind (section (even gateWords) (p .rest)) (λ g. bind (section (headed rowSize) (g .rest)) (λ r.
-    bind (section (even 1) (r .rest)) (λ s. bind (section (even 1) (s .rest)) (λ c. bind (section (headed tableSize) (c .rest)) (λ t.
+    bind (bind (section (fixed 1) xs) eight) (λ p.
+    bind (section (fixed gateWords) (p .rest)) (λ g.
+    bind (section (headed rowSize) (g .rest)) (λ r.
+    bind (section (fixed 1) (r .rest)) (λ s.
+    bind (section (fixed 1) (s .rest)) (λ c.
+    bind (section (headed tableSize) (c .rest)) (λ t.
     ended (record { parameters = p .front; gates = g .front; rows = r .front; sWords = s .front; cells = c .front; tables = t .front }) (t .rest)))))))
 
 -- what a listing says: the words of its sections, or a refusal

@@ -18,12 +18,12 @@ use Rattle.base.specs.Pick.{pick}
 use Rattle.base.specs.Drops.{drop-none, drop-one}
 use Rattle.selector.specs.Gates.{gateWords}
 use Rattle.pieces.specs.Records.{rowSize, tableSize}
-use Rattle.listing.specs.Listing.{Taken, off, after, records, section, even, headed, parameterWords, Words, eight, ended, sixSections, Reading, whole, refused, orTwenty, read}
-use Rattle.listing.specs.Ends.{endOf, longAt, evenEnd, recordsEnd, sectionsAt, listingFrom, wordsAt, partsOf}
+use Rattle.listing.specs.Listing.{Taken, off, after, records, section, fixed, headed, parameterWords, Words, eight, ended, sixSections, Reading, whole, refused, orTwenty, read}
+use Rattle.listing.specs.Ends.{endOf, longAt, fixedEnd, recordsEnd, sectionsAt, listingFrom, wordsAt, partsOf}
 use Rattle.listing.specs.declared.sections.Sections.{Sections}
 use Rattle.listing.specs.declared.sections.Listing.{Listing}
 use Rattle.listing.specs.declared.sections.Listing.the-variants.{Whole, Refused}
-use Rattle.listing.specs.EndLaws.{Ends, end-from, end-even, even-past, records-past, late-parameters, wrong-count, late-gates, late-rows, late-s, late-cells, late-tables, found-whole}
+use Rattle.listing.specs.EndLaws.{Ends, end-from, end-fixed, fixed-past, records-past, late-parameters, wrong-count, late-gates, late-rows, late-s, late-cells, late-tables, found-whole}
 
 -- the words between two places, and those after them
 abbrev between : List ℕ → ℕ → ℕ → Taken
@@ -99,9 +99,9 @@ module _ (xs : List ℕ) (long : List ℕ → ℕ) (size : ℕ → ℕ) (same : 
 
 module _ (xs : List ℕ) where
   -- the sections of the two forms
-  even-at : (each a : ℕ) → section (even each) (drop a xs) ≡ upTo xs (a + 1) (evenEnd each xs a)
-  unfolding evenEnd
-  even-at each a = section-at xs (even each) (λ i. each) (λ b. refl) a ∙ ap (upTo xs (a + 1)) (end-even each (getD xs a 0) (a + 1))
+  fixed-at : (each a : ℕ) → section (fixed each) (drop a xs) ≡ upTo xs (a + 1) (fixedEnd each xs a)
+  unfolding fixedEnd
+  fixed-at each a = section-at xs (fixed each) (λ i. each) (λ b. refl) a ∙ ap (upTo xs (a + 1)) (end-fixed each (getD xs a 0) (a + 1))
 
   headed-at : (size : ℕ → ℕ → ℕ) (a : ℕ) → section (headed size) (drop a xs) ≡ upTo xs (a + 1) (recordsEnd size xs a)
   unfolding recordsEnd
@@ -114,11 +114,11 @@ module _ (xs : List ℕ) where
           rw (p, getD-drop b xs 1 0)
 
   module _ (each a : ℕ) where
-    even-here : evenEnd each xs a ≤ length xs → section (even each) (drop a xs) ≡ some (between xs (a + 1) (evenEnd each xs a))
-    even-here h = even-at each a ∙ here xs (a + 1) (evenEnd each xs a) h
+    fixed-here : fixedEnd each xs a ≤ length xs → section (fixed each) (drop a xs) ≡ some (between xs (a + 1) (fixedEnd each xs a))
+    fixed-here h = fixed-at each a ∙ here xs (a + 1) (fixedEnd each xs a) h
 
-    even-gone : length xs < evenEnd each xs a → section (even each) (drop a xs) ≡ none
-    even-gone h = even-at each a ∙ gone xs (a + 1) (evenEnd each xs a) h
+    fixed-gone : length xs < fixedEnd each xs a → section (fixed each) (drop a xs) ≡ none
+    fixed-gone h = fixed-at each a ∙ gone xs (a + 1) (fixedEnd each xs a) h
 
   module _ (size : ℕ → ℕ → ℕ) (a : ℕ) where
     headed-here : recordsEnd size xs a ≤ length xs → section (headed size) (drop a xs) ≡ some (between xs (a + 1) (recordsEnd size xs a))
@@ -129,19 +129,19 @@ module _ (xs : List ℕ) where
 
   -- where the sections end
   abbrev g : ℕ
-  g = evenEnd 1 xs 0
+  g = fixedEnd 1 xs 0
 
   abbrev r : ℕ
-  r = evenEnd gateWords xs g
+  r = fixedEnd gateWords xs g
 
   abbrev s : ℕ
   s = recordsEnd rowSize xs r
 
   abbrev c : ℕ
-  c = evenEnd 1 xs s
+  c = fixedEnd 1 xs s
 
   abbrev t : ℕ
-  t = evenEnd 1 xs c
+  t = fixedEnd 1 xs c
 
   abbrev e : ℕ
   e = recordsEnd tableSize xs t
@@ -163,17 +163,17 @@ module _ (xs : List ℕ) where
   counted : g ≤ length xs → length (take (g - 1) (drop 1 xs)) ≡ g - 1
   counted h = length-take-le (g - 1) (drop 1 xs) (omega (arith, length-drop 1 xs))
 
-  parameters-here : g ≤ length xs → g - 1 ≡ parameterWords → bind (section (even 1) xs) eight ≡ some (between xs 1 g)
+  parameters-here : g ≤ length xs → g - 1 ≡ parameterWords → bind (section (fixed 1) xs) eight ≡ some (between xs 1 g)
   unfolding bind
-  parameters-here h k = rw (even-here 1 0 h, eq-eqb (length (take (g - 1) (drop 1 xs))) parameterWords (counted h ∙ k))
+  parameters-here h k = rw (fixed-here 1 0 h, eq-eqb (length (take (g - 1) (drop 1 xs))) parameterWords (counted h ∙ k))
 
-  parameters-wrong : g ≤ length xs → g - 1 ≢ parameterWords → bind (section (even 1) xs) eight ≡ none
+  parameters-wrong : g ≤ length xs → g - 1 ≢ parameterWords → bind (section (fixed 1) xs) eight ≡ none
   unfolding bind
-  parameters-wrong h k = rw (even-here 1 0 h, ne-eqb (length (take (g - 1) (drop 1 xs))) parameterWords (λ q. k (sym (counted h) ∙ q)))
+  parameters-wrong h k = rw (fixed-here 1 0 h, ne-eqb (length (take (g - 1) (drop 1 xs))) parameterWords (λ q. k (sym (counted h) ∙ q)))
 
-  parameters-gone : length xs < g → bind (section (even 1) xs) eight ≡ none
+  parameters-gone : length xs < g → bind (section (fixed 1) xs) eight ≡ none
   unfolding bind
-  parameters-gone h = rw (even-gone 1 0 h)
+  parameters-gone h = rw (fixed-gone 1 0 h)
 
   -- both turn the listing down
   both-refuse : Refused 20 ≡ listingFrom xs 0 → sixSections xs ≡ none → partsOf xs (listingFrom xs 0) ≡ read xs
@@ -188,7 +188,7 @@ module _ (xs : List ℕ) where
           module _ (ht : t ≤ length xs) where
             last-read : e ≤ length xs → sixSections xs ≡ ended words (drop e xs)
             unfolding sixSections bind
-            last-read he = rw (parameters-here hg k, even-here gateWords g hr, headed-here rowSize r hs, even-here 1 s hc, even-here 1 c ht, headed-here tableSize t he)
+            last-read he = rw (parameters-here hg k, fixed-here gateWords g hr, headed-here rowSize r hs, fixed-here 1 s hc, fixed-here 1 c ht, headed-here tableSize t he)
 
             read-end : e ≤ length xs → Dec (e ≡ length xs) → partsOf xs (listingFrom xs 0) ≡ read xs
             unfolding read
@@ -206,30 +206,30 @@ module _ (xs : List ℕ) where
             read-tables (yes he) = read-end he (ℕ-discrete e (length xs))
             read-tables (no h) =
                 both-refuse (late-tables xs 0 g r s c t refl refl refl refl refl (λ z. omega arith))
-                (rw (parameters-here hg k, even-here gateWords g hr, headed-here rowSize r hs, even-here 1 s hc, even-here 1 c ht, headed-gone tableSize t (omega arith)))
+                (rw (parameters-here hg k, fixed-here gateWords g hr, headed-here rowSize r hs, fixed-here 1 s hc, fixed-here 1 c ht, headed-gone tableSize t (omega arith)))
 
           read-cells : Dec (t ≤ length xs) → partsOf xs (listingFrom xs 0) ≡ read xs
           unfolding sixSections bind
           read-cells (yes ht) = read-tables ht (decLe e (length xs))
           read-cells (no h) =
               both-refuse (late-cells xs 0 g r s c refl refl refl refl (omega arith))
-              (rw (parameters-here hg k, even-here gateWords g hr, headed-here rowSize r hs, even-here 1 s hc, even-gone 1 c (omega arith)))
+              (rw (parameters-here hg k, fixed-here gateWords g hr, headed-here rowSize r hs, fixed-here 1 s hc, fixed-gone 1 c (omega arith)))
 
         read-s : Dec (c ≤ length xs) → partsOf xs (listingFrom xs 0) ≡ read xs
         unfolding sixSections bind
         read-s (yes hc) = read-cells hc (decLe t (length xs))
         read-s (no h) =
-            both-refuse (late-s xs 0 g r s refl refl refl (omega arith)) (rw (parameters-here hg k, even-here gateWords g hr, headed-here rowSize r hs, even-gone 1 s (omega arith)))
+            both-refuse (late-s xs 0 g r s refl refl refl (omega arith)) (rw (parameters-here hg k, fixed-here gateWords g hr, headed-here rowSize r hs, fixed-gone 1 s (omega arith)))
 
       read-rows : Dec (s ≤ length xs) → partsOf xs (listingFrom xs 0) ≡ read xs
       unfolding sixSections bind
       read-rows (yes hs) = read-s hs (decLe c (length xs))
-      read-rows (no h) = both-refuse (late-rows xs 0 g r refl refl (omega arith)) (rw (parameters-here hg k, even-here gateWords g hr, headed-gone rowSize r (omega arith)))
+      read-rows (no h) = both-refuse (late-rows xs 0 g r refl refl (omega arith)) (rw (parameters-here hg k, fixed-here gateWords g hr, headed-gone rowSize r (omega arith)))
 
     read-gates : Dec (r ≤ length xs) → partsOf xs (listingFrom xs 0) ≡ read xs
     unfolding sixSections bind
     read-gates (yes hr) = read-rows hr (decLe s (length xs))
-    read-gates (no h) = both-refuse (late-gates xs 0 g refl (omega arith)) (rw (parameters-here hg k, even-gone gateWords g (omega arith)))
+    read-gates (no h) = both-refuse (late-gates xs 0 g refl (omega arith)) (rw (parameters-here hg k, fixed-gone gateWords g (omega arith)))
 
   read-parameters : Dec (g ≤ length xs) → Dec (g - 1 ≡ parameterWords) → partsOf xs (listingFrom xs 0) ≡ read xs
   unfolding sixSections bind
@@ -280,5 +280,5 @@ module _ (xs : List ℕ) where
           let six = found-whole xs 0 g r s c t e _ _ _ _ _ _ refl refl refl refl refl refl every k d in
           let h : whole words ≡ whole w = sym (read-whole (sectionsAt 0 g r s c t e) six) ∙ q in
           let same : take (g - 1) (drop 1 xs) ≡ w .parameters = cc in
-          let short : g ≤ length xs = omega (arith, even-past xs g gateWords, records-past xs r rowSize, even-past xs s 1, even-past xs c 1, records-past xs t tableSize) in
+          let short : g ≤ length xs = omega (arith, fixed-past xs g gateWords, records-past xs r rowSize, fixed-past xs s 1, fixed-past xs c 1, records-past xs t tableSize) in
           sym (ap length same) ∙ counted short ∙ k

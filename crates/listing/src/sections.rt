@@ -5,7 +5,7 @@ ghost use Prim.Native.Nat.{_*_};
 ghost use lib.ListN.{length};
 ghost use lib.Dec.{leb};
 ghost use Rattle.pieces.specs.Records.{rowSize, tableSize};
-ghost use Rattle.listing.specs.Ends.{sectionOf, evenEnd, recordsEnd, listingFrom};
+ghost use Rattle.listing.specs.Ends.{sectionOf, fixedEnd, recordsEnd, listingFrom};
 
 // A section's words: where they begin in the listing, after their count, and how many they are.
 pub struct Part {
@@ -50,8 +50,8 @@ fn product_within(a: u64, b: u64, room: u64) -> bool
 }
 
 // The section whose count stands at a place, of records that are all as long: parameters, gates, S words, cell words.
-fn even_section(words: &[u64], at: usize, each: u64) -> Section
-    ensures { λ r. ⌜ r ≡ sectionOf (length (now (words .entry))) at (evenEnd each (now (words .entry)) at) ⌝ }
+fn fixed_section(words: &[u64], at: usize, each: u64) -> Section
+    ensures { λ r. ⌜ r ≡ sectionOf (length (now (words .entry))) at (fixedEnd each (now (words .entry)) at) ⌝ }
 {
     if words.len() <= at {
         return Section::Missing;
@@ -127,23 +127,23 @@ fn tables_section(words: &[u64], at: usize) -> Section
 pub(crate) fn sections_from(words: &[u64], at: usize) -> Listing
     ensures { λ r. ⌜ r ≡ listingFrom (now (words .entry)) at ⌝ }
 {
-    let Section::Found(parameters) = even_section(words, at, 1) else {
+    let Section::Found(parameters) = fixed_section(words, at, 1) else {
         return Listing::Refused(20);
     };
     if parameters.len != PARAMETER_WORDS {
         return Listing::Refused(20);
     }
-    let Section::Found(gates) = even_section(words, parameters.start + parameters.len, GATE_WORDS)
+    let Section::Found(gates) = fixed_section(words, parameters.start + parameters.len, GATE_WORDS)
     else {
         return Listing::Refused(20);
     };
     let Section::Found(rows) = rows_section(words, gates.start + gates.len) else {
         return Listing::Refused(20);
     };
-    let Section::Found(s_words) = even_section(words, rows.start + rows.len, 1) else {
+    let Section::Found(s_words) = fixed_section(words, rows.start + rows.len, 1) else {
         return Listing::Refused(20);
     };
-    let Section::Found(cells) = even_section(words, s_words.start + s_words.len, 1) else {
+    let Section::Found(cells) = fixed_section(words, s_words.start + s_words.len, 1) else {
         return Listing::Refused(20);
     };
     let Section::Found(tables) = tables_section(words, cells.start + cells.len) else {

@@ -1,4 +1,4 @@
--- `listing::sections::even_section` meets its contract. What `product_within` answers is `fitting` or `too-long`, and the product is made only after it.
+-- `listing::sections::fixed_section` meets its contract. What `product_within` answers is `fitting` or `too-long`, and the product is made only after it.
 -- Assumes nothing.
 use borrow.Author.Needs.{needs}
 use borrow.Author.Tests.{leb-true, leb-false}
@@ -6,16 +6,16 @@ use mathlib.Core.Path.{refl, sym, _∙_}
 use Prim.Native.Nat.{_+_, _-_, _*_, _<_, _≤_}
 use native.Mathlib.Omega.{arith}
 use lib.ListN.{length, getD}
-use Rattle.listing.specs.Ends.{evenEnd}
+use Rattle.listing.specs.Ends.{fixedEnd}
 use Rattle.listing.specs.EndLaws.{found, missing}
-use Rattle.listing.proofs.sections.even_section.Statement.{statement}
-use Rattle.listing.proofs.sections.even_section.Tie as tie
+use Rattle.listing.proofs.sections.fixed_section.Statement.{statement}
+use Rattle.listing.proofs.sections.fixed_section.Tie as tie
 
 returns : tie.Need-returns
-unfolding evenEnd
+unfolding fixedEnd
 returns c =
     let a = c .before .before .args in
-    missing (length (a .words .now)) (a .at) (evenEnd (a .each) (a .words .now) (a .at)) (omega arith)
+    missing (length (a .words .now)) (a .at) (fixedEnd (a .each) (a .words .now) (a .at)) (omega arith)
 
 add-start : tie.Need-add-start
 add-start c = search needs
@@ -47,19 +47,19 @@ mul-t12 : tie.Need-mul-t12
 mul-t12 c = omega (arith, fitting c)
 
 returns-2 : tie.Need-returns-2
-unfolding evenEnd
+unfolding fixedEnd
 returns-2 c =
     let a = c .before .before .before .before .before .args in
-    found (length (a .words .now)) (a .at) (evenEnd (a .each) (a .words .now) (a .at)) (a .at + 1) (getD (a .words .now) (a .at) 0 * a .each) refl refl (omega (arith, fitting c))
+    found (length (a .words .now)) (a .at) (fixedEnd (a .each) (a .words .now) (a .at)) (a .at + 1) (getD (a .words .now) (a .at) 0 * a .each) refl refl (omega (arith, fitting c))
 
 returns-3 : tie.Need-returns-3
-unfolding evenEnd
+unfolding fixedEnd
 returns-3 c =
     let a = c .before .before .before .before .before .args in
-    missing (length (a .words .now)) (a .at) (evenEnd (a .each) (a .words .now) (a .at)) (omega (arith, too-long c))
+    missing (length (a .words .now)) (a .at) (fixedEnd (a .each) (a .words .now) (a .at)) (omega (arith, too-long c))
 
-pub even-section-spec : {M : Type 1} → statement M
-even-section-spec =
+pub fixed-section-spec : {M : Type 1} → statement M
+fixed-section-spec =
     tie.close
     (tie.spec
     returns
