@@ -1,1 +1,1 @@
-mod Went
+mod Moves

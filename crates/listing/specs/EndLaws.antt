@@ -4,7 +4,6 @@
 -- `wrong-count`, `late-..` and `found-whole` (the whole test, from the first section that is missing); `product-leb` (a product against a bound, by a division).
 use mathlib.Core.Path.{_≡_, refl, sym, ap, _∙_}
 use mathlib.Core.Logic.{_≢_}
-use mathlib.Core.Bool.{true, false}
 use mathlib.Core.List.{List}
 use Prim.Native.Nat.{ℕ, zero, suc, _+_, _-_, _*_, _/_, _≤_, _<_}
 use native.Mathlib.Nat.{le-div-iff-mul-le, div-lt-iff-lt-mul, mul-comm, zero-mul, suc-mul}
@@ -18,7 +17,6 @@ use Rattle.pieces.specs.Records.{rowSize, tableSize}
 use Rattle.listing.specs.Listing.{parameterWords}
 use Rattle.listing.specs.Ends.{endOf, longAt, fixedEnd, recordsEnd, part, sectionOf, sectionsAt, judged, listingFrom}
 use Rattle.listing.specs.declared.sections.Part.{Part}
-use Rattle.listing.specs.declared.sections.Section.{Section}
 use Rattle.listing.specs.declared.sections.Section.the-variants.{Found, Missing}
 use Rattle.listing.specs.declared.sections.Listing.the-variants.{Whole, Refused}
 

@@ -86,6 +86,7 @@ abbrev pub orTwenty : Option Words → Reading
 orTwenty none = refused 20
 orTwenty (some w) = whole w
 
--- "20 wrong parameter count, input missing, over-long or left over, tested over the whole input before all else"
+-- "20 wrong parameter count, input missing, over-long or left over, tested over the whole input before all else". Here a listing is a list of words: that the input has at most
+-- 65,536 bytes, and no bytes beside whole words, is tested where it is read.
 unfoldable pub read : List ℕ → Reading
 read xs = orTwenty (sixSections xs)

@@ -4,10 +4,9 @@
 -- knows after each of the code's answers), `refused-back`; `only-twenty` (no other refusal), `read-eight` (the parameters are eight words).
 use mathlib.Core.Path.{_≡_, refl, sym, ap, _∙_}
 use mathlib.Core.Logic.{_≢_}
-use mathlib.Core.Bool.{true, false}
-use mathlib.Core.List.{List, [], _∷_, _++_}
+use mathlib.Core.List.{List, _++_}
 use mathlib.Core.Option.{Option, none, some, bind}
-use Prim.Native.Nat.{ℕ, zero, suc, _+_, _-_, _*_, _≤_, _<_}
+use Prim.Native.Nat.{ℕ, zero, suc, _+_, _-_, _≤_, _<_}
 use native.Mathlib.Decide.{decLe, decLt, ℕ-discrete}
 use native.Mathlib.Omega.{arith}
 use lib.ListN.{length, getD, take, drop, length-drop}
@@ -18,7 +17,7 @@ use Rattle.base.specs.Pick.{pick}
 use Rattle.base.specs.Drops.{drop-none, drop-one}
 use Rattle.selector.specs.Gates.{gateWords}
 use Rattle.pieces.specs.Records.{rowSize, tableSize}
-use Rattle.listing.specs.Listing.{Taken, off, after, records, section, fixed, headed, parameterWords, Words, eight, ended, sixSections, Reading, whole, refused, orTwenty, read}
+use Rattle.listing.specs.Listing.{Taken, off, after, records, section, fixed, headed, parameterWords, Words, eight, ended, sixSections, whole, refused, orTwenty, read}
 use Rattle.listing.specs.Ends.{endOf, longAt, fixedEnd, recordsEnd, sectionsAt, listingFrom, wordsAt, partsOf}
 use Rattle.listing.specs.declared.sections.Sections.{Sections}
 use Rattle.listing.specs.declared.sections.Listing.{Listing}

@@ -38,7 +38,7 @@ use denote.Triple.Walked.{says, Stays, stay-none, stay-none-slice, walkOf, goes-
 use denote.Exit.{yes}
 use denote.Triple.Clauses.{ensured, lasts}
 use Rattle.listing.specs.Cursor.{movedTo, drop-moved}
-use Rattle.listing.proofs.Went.{at-moved}
+use Rattle.listing.proofs.Moves.{at-moved}
 use Rattle.listing.specs.declared.cursor.Cursor.{Cursor}
 use Rattle.listing.proofs.cursor.Cursor as T
 use Rattle.listing.proofs.cursor.Cursor.Laws as T′
