@@ -1,11 +1,11 @@
 // Plans by value: the test for a made-up plan, paths and the table-id index.
 ghost use mathlib.Core.Path.{_≡_};
-ghost use Rattle.tree.specs.Lookup.{flagOf};
+ghost use Rattle.parameters.specs.Lookup.{flagOf};
 ghost use Rattle.tree.specs.Plan.{zeroPlan, parametersOf, planFault, pathAnswer, tableIdAnswer};
 use crate::gates::GATE_WORDS;
-use crate::lookup::LookupParameters;
+use parameters::lookup::LookupParameters;
 use crate::made_up::nodes_fit;
-use crate::parameters::Parameters;
+use parameters::parameters::Parameters;
 use crate::paths::output_placement;
 use crate::refusals::extra_of;
 use crate::refusals::gates_number;

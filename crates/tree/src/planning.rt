@@ -6,7 +6,7 @@ ghost use lib.ListN.{length, drop};
 ghost use Rattle.tree.specs.Plan.{wordsNumber, refusedPlan, planAnswer};
 use crate::gates::GATE_WORDS;
 use crate::nodes::shape_of;
-use crate::parameters::Parameters;
+use parameters::parameters::Parameters;
 use crate::plan::Plan;
 use crate::refusals::extra_of;
 use crate::refusals::gates_number;

@@ -4,7 +4,7 @@ ghost use mathlib.Core.Path.{_≡_};
 ghost use lib.ListN.{length};
 use libc::STDOUT_FILENO;
 use replay::Replay;
-use tree::parameters::Parameters;
+use parameters::parameters::Parameters;
 use tree::plan::Plan;
 use tree::planning::Planned;
 

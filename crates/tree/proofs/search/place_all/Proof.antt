@@ -6,7 +6,6 @@ use borrow.Author.Needs.{needs}
 use lib.ListN.{getD}
 use mathlib.Core.Path.{_∙_, ap, sym}
 use native.Mathlib.Omega.{arith}
-use Rattle.labels.specs.Labels.{kept}
 use Rattle.selector.specs.Flat.{Placed, levels}
 use Rattle.selector.specs.FlatLaws.{refused}
 use Rattle.selector.specs.Search.{mayStand}

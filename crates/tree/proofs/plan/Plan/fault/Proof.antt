@@ -12,10 +12,10 @@ use Rattle.selector.specs.Gates.{gateWords}
 use Rattle.selector.specs.MadeUp.{nodesFit}
 use Rattle.selector.specs.RecordLaws.{gates-sound}
 use Rattle.selector.specs.Refusals.{extraOf, gatesNumber, mostGates}
-use Rattle.tree.specs.Lookup.{modeOf}
-use Rattle.tree.specs.Parameters.{parametersNumber}
+use Rattle.parameters.specs.Lookup.{modeOf}
+use Rattle.parameters.specs.Parameters.{parametersNumber}
 use Rattle.tree.specs.Plan.{gatesGiven, parametersOf, planExtra, planFault}
-use Rattle.tree.specs.declared.parameters.Parameters.{Parameters}
+use Rattle.parameters.specs.declared.parameters.Parameters.{Parameters}
 use Rattle.tree.proofs.plan.Plan.fault.Statement.{statement}
 use Rattle.tree.proofs.plan.Plan.fault.Tie as tie
 

@@ -1,6 +1,6 @@
 // 01's lookup modes, as LookupParameters of cs/mod.rs orders them.
 ghost use mathlib.Core.Path.{_≡_};
-ghost use Rattle.tree.specs.Lookup.{widthOf, shareOf, modeOf};
+ghost use Rattle.parameters.specs.Lookup.{widthOf, shareOf, modeOf};
 
 pub enum LookupParameters {
     NoLookup,

@@ -3,9 +3,9 @@
 use borrow.Author.Needs.{needs}
 use borrow.Author.Tests.{eq-eqb, le-leb, le-ltb, lt-leb, lt-ltb, ne-eqb}
 use mathlib.Core.Path.{_∙_, sym}
-use Rattle.tree.specs.Parameters.{rangeNumber}
-use Rattle.tree.proofs.parameters.Parameters.range_number.Statement.{statement}
-use Rattle.tree.proofs.parameters.Parameters.range_number.Tie as tie
+use Rattle.parameters.specs.Parameters.{rangeNumber}
+use Rattle.parameters.proofs.parameters.Parameters.range_number.Statement.{statement}
+use Rattle.parameters.proofs.parameters.Parameters.range_number.Tie as tie
 
 ranges-fit-requires : tie.Need-ranges-fit-requires
 ranges-fit-requires c κs = search needs
