@@ -16,22 +16,10 @@ impl LookupParameters {
     {
         match self {
             LookupParameters::NoLookup => 0,
-            LookupParameters::TableIdAsVariable {
-                width,
-                share_table_id: _,
-            } => width,
-            LookupParameters::TableIdAsConstant {
-                width,
-                share_table_id: _,
-            } => width,
-            LookupParameters::UseSpecializedColumnsWithTableIdAsVariable {
-                width,
-                share_table_id: _,
-            } => width,
-            LookupParameters::UseSpecializedColumnsWithTableIdAsConstant {
-                width,
-                share_table_id: _,
-            } => width,
+            LookupParameters::TableIdAsVariable { width, .. } => width,
+            LookupParameters::TableIdAsConstant { width, .. } => width,
+            LookupParameters::UseSpecializedColumnsWithTableIdAsVariable { width, .. } => width,
+            LookupParameters::UseSpecializedColumnsWithTableIdAsConstant { width, .. } => width,
         }
     }
 
@@ -41,22 +29,12 @@ impl LookupParameters {
     {
         match self {
             LookupParameters::NoLookup => false,
-            LookupParameters::TableIdAsVariable {
-                width: _,
+            LookupParameters::TableIdAsVariable { share_table_id, .. } => share_table_id,
+            LookupParameters::TableIdAsConstant { share_table_id, .. } => share_table_id,
+            LookupParameters::UseSpecializedColumnsWithTableIdAsVariable { share_table_id, .. } =>
                 share_table_id,
-            } => share_table_id,
-            LookupParameters::TableIdAsConstant {
-                width: _,
+            LookupParameters::UseSpecializedColumnsWithTableIdAsConstant { share_table_id, .. } =>
                 share_table_id,
-            } => share_table_id,
-            LookupParameters::UseSpecializedColumnsWithTableIdAsVariable {
-                width: _,
-                share_table_id,
-            } => share_table_id,
-            LookupParameters::UseSpecializedColumnsWithTableIdAsConstant {
-                width: _,
-                share_table_id,
-            } => share_table_id,
         }
     }
 
@@ -66,22 +44,10 @@ impl LookupParameters {
     {
         match self {
             LookupParameters::NoLookup => 0,
-            LookupParameters::TableIdAsVariable {
-                width: _,
-                share_table_id: _,
-            } => 1,
-            LookupParameters::TableIdAsConstant {
-                width: _,
-                share_table_id: _,
-            } => 2,
-            LookupParameters::UseSpecializedColumnsWithTableIdAsVariable {
-                width: _,
-                share_table_id: _,
-            } => 3,
-            LookupParameters::UseSpecializedColumnsWithTableIdAsConstant {
-                width: _,
-                share_table_id: _,
-            } => 4,
+            LookupParameters::TableIdAsVariable { .. } => 1,
+            LookupParameters::TableIdAsConstant { .. } => 2,
+            LookupParameters::UseSpecializedColumnsWithTableIdAsVariable { .. } => 3,
+            LookupParameters::UseSpecializedColumnsWithTableIdAsConstant { .. } => 4,
         }
     }
 }
