@@ -1,7 +1,7 @@
 -- `refusals::words_fit` meets its contract: its tests are the definition's.
 -- Assumes nothing.
 use borrow.Author.Needs.{needs}
-use borrow.Author.Tests.{eq-eqb, le-leb, le-ltb, lt-leb, lt-ltb, ne-eqb}
+use borrow.Author.Tests.{eq-eqb, le-leb, lt-leb, ne-eqb}
 use Rattle.selector.specs.Refusals.{wordsFit}
 use Rattle.tree.proofs.refusals.words_fit.Statement.{statement}
 use Rattle.tree.proofs.refusals.words_fit.Tie as tie
@@ -13,7 +13,6 @@ returns : tie.Need-returns
 unfolding wordsFit
 returns c =
     simp (
-      lt-ltb _ _ (c .if2 .taken),
       lt-leb _ _ (c .if2 .taken),
       eq-eqb _ _ (c .before .if1 .taken),
     )
@@ -23,7 +22,6 @@ unfolding wordsFit
 returns-2 c =
     simp (
       le-leb _ _ (c .if2 .left),
-      le-ltb _ _ (c .if2 .left),
       eq-eqb _ _ (c .before .if1 .taken),
     )
 
