@@ -1,11 +1,11 @@
 -- `made_up::linked_at` meets its contract: its tests are the definition's.
 -- Assumes nothing.
 use Prim.Native.Nat.{_<_, _≤_, ℕ}
-use borrow.Author.Needs.{needs}
 use borrow.Author.Tests.{le-ltb, lt-ltb, ne-eqb}
 use mathlib.Core.Bool.{false}
 use mathlib.Core.List.{List}
 use mathlib.Core.Path.{_≡_, sym}
+use native.Mathlib.Omega.{arith}
 use Rattle.selector.specs.MadeUp.{linkedAt}
 use Rattle.selector.specs.MadeUpLaws.{linked-in, linked-leaf}
 use Rattle.selector.specs.Nodes.{leftAt, rightAt}
@@ -27,25 +27,25 @@ module _ (ns : List ℕ) (n i : ℕ) (e : leftAt ns i ≡ 0 → ⊥) where
   right-early h k l = rw (ne-eqb (leftAt ns i) 0 e, lt-ltb i (leftAt ns i) h, lt-ltb (leftAt ns i) n k, le-ltb i (rightAt ns i) l)
 
 mul-left : tie.Need-mul-left
-mul-left c = search needs
+mul-left c = omega arith
 
 mul-left-2 : tie.Need-mul-left-2
-mul-left-2 c = search needs
+mul-left-2 c = omega arith
 
 element-copy-out-left : tie.Need-element-copy-out-left
-element-copy-out-left c = search needs
+element-copy-out-left c = omega arith
 
 mul-right : tie.Need-mul-right
-mul-right c = search needs
+mul-right c = omega arith
 
 add-right : tie.Need-add-right
-add-right c = search needs
+add-right c = omega arith
 
 mul-right-2 : tie.Need-mul-right-2
-mul-right-2 c = search needs
+mul-right-2 c = omega arith
 
 element-copy-out-right : tie.Need-element-copy-out-right
-element-copy-out-right c = search needs
+element-copy-out-right c = omega arith
 
 returns : tie.Need-returns
 returns c =

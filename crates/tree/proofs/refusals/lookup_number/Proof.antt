@@ -3,6 +3,7 @@
 use borrow.Author.Needs.{needs}
 use borrow.Author.Tests.{eq-eqb, ne-eqb}
 use mathlib.Core.Path.{_∙_, sym}
+use native.Mathlib.Omega.{arith}
 use Rattle.selector.specs.Refusals.{lookupNumber}
 use Rattle.tree.proofs.refusals.lookup_number.Statement.{statement}
 use Rattle.tree.proofs.refusals.lookup_number.Tie as tie
@@ -16,7 +17,7 @@ returns c =
     simp (sym (c .before .some-kind .ensures) ∙ c .if1 .taken)
 
 shared-slice-read-first : tie.Need-shared-slice-read-first
-shared-slice-read-first c = search needs
+shared-slice-read-first c = omega arith
 
 returns-2 : tie.Need-returns-2
 unfolding lookupNumber

@@ -1,13 +1,13 @@
 -- `refusals::words_fit` meets its contract: its tests are the definition's.
 -- Assumes nothing.
-use borrow.Author.Needs.{needs}
 use borrow.Author.Tests.{eq-eqb, le-leb, lt-leb, ne-eqb}
+use native.Mathlib.Omega.{arith}
 use Rattle.selector.specs.Refusals.{wordsFit}
 use Rattle.tree.proofs.refusals.words_fit.Statement.{statement}
 use Rattle.tree.proofs.refusals.words_fit.Tie as tie
 
 mul-if1 : tie.Need-mul-if1
-mul-if1 c = search needs
+mul-if1 c = omega arith
 
 returns : tie.Need-returns
 unfolding wordsFit

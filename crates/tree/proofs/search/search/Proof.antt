@@ -94,7 +94,7 @@ mul-target c =
     omega (arith, l .inv .1, cap-all (l .k))
 
 sub-k : tie.Need-sub-k Inv-loop μ-loop
-sub-k c = search needs
+sub-k c = omega arith
 
 loop-less : tie.Need-loop-less Inv-loop μ-loop
 loop-less c = search needs

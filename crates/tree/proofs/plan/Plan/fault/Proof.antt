@@ -50,7 +50,7 @@ returns-3 c =
     rw (eq-eqb (parametersNumber (parametersOf s)) 0 (sym f ∙ c .before .before .if1 .left), le-leb 1 (s .«gate_count») (omega arith), lt-leb (s .«gate_count») mostGates (omega arith))
 
 mul-end : tie.Need-mul-end
-mul-end c = search needs
+mul-end c = omega arith
 
 array-share-prefix-gates : tie.Need-array-share-prefix-gates
 array-share-prefix-gates c =
