@@ -6,11 +6,11 @@ use Rattle.tree.proofs.refusals.lists_lookup.Tie as tie
 
 returns : tie.Need-returns
 returns c =
-    simp (lt-leb _ _ (c .if1 .taken))
+    rw (lt-leb _ _ (c .if1 .taken))
 
 returns-2 : tie.Need-returns-2
 returns-2 c =
-    simp (le-leb _ _ (c .if1 .left))
+    rw (le-leb _ _ (c .if1 .left))
 
 pub lists-lookup-spec : {M : Type 1} → statement M
 lists-lookup-spec = tie.close (tie.spec returns returns-2)

@@ -12,7 +12,7 @@ mul-if1 c = omega arith
 returns : tie.Need-returns
 unfolding wordsFit
 returns c =
-    simp (
+    rw (
       lt-leb _ _ (c .if2 .taken),
       eq-eqb _ _ (c .before .if1 .taken),
     )
@@ -20,7 +20,7 @@ returns c =
 returns-2 : tie.Need-returns-2
 unfolding wordsFit
 returns-2 c =
-    simp (
+    rw (
       le-leb _ _ (c .if2 .left),
       eq-eqb _ _ (c .before .if1 .taken),
     )
@@ -28,7 +28,7 @@ returns-2 c =
 returns-3 : tie.Need-returns-3
 unfolding wordsFit
 returns-3 c =
-    simp (ne-eqb _ _ (c .if1 .left))
+    rw (ne-eqb _ _ (c .if1 .left))
 
 pub words-fit-spec : {M : Type 1} → statement M
 words-fit-spec = tie.close (tie.spec mul-if1 returns returns-2 returns-3)
