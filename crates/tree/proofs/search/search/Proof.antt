@@ -52,7 +52,7 @@ loop-holds c =
     let p = s .pre in
     let r = c .before .before .before .arrange in (
       omega arith,
-      c .factor-of .ensures .1,
+      omega (arith, c .factor-of .ensures .1),
       p .1,
       search-begin (a .gates .now) (a .many) (a .extra) _ (c .factor-of .ensures .0 ∙ ap factor (r .ensures .1 .0)),
     )
