@@ -3,9 +3,9 @@
 use borrow.Author.Needs.{needs}
 use mathlib.Core.Path.{_∙_, sym}
 use Rattle.base.specs.Firsts.{first-found, first-none}
-use Rattle.tree.specs.Parameters.{flagNumber, parametersNumber, rangeNumber}
-use Rattle.tree.proofs.parameters.Parameters.number.Statement.{statement}
-use Rattle.tree.proofs.parameters.Parameters.number.Tie as tie
+use Rattle.parameters.specs.Parameters.{flagNumber, parametersNumber, rangeNumber}
+use Rattle.parameters.proofs.parameters.Parameters.number.Statement.{statement}
+use Rattle.parameters.proofs.parameters.Parameters.number.Tie as tie
 
 range-number-requires : tie.Need-range-number-requires
 range-number-requires c κs = search needs

@@ -1,9 +1,9 @@
 -- `parameters::Parameters::lookup` meets its contract: the code makes the definition's tests in the definition's order.
 -- Assumes nothing.
 use borrow.Author.Tests.{eq-eqb, ne-eqb}
-use Rattle.tree.specs.Parameters.{lookupOf}
-use Rattle.tree.proofs.parameters.Parameters.lookup.Statement.{statement}
-use Rattle.tree.proofs.parameters.Parameters.lookup.Tie as tie
+use Rattle.parameters.specs.Parameters.{lookupOf}
+use Rattle.parameters.proofs.parameters.Parameters.lookup.Statement.{statement}
+use Rattle.parameters.proofs.parameters.Parameters.lookup.Tie as tie
 
 returns : tie.Need-returns
 unfolding lookupOf

@@ -4,8 +4,8 @@
 -- Main definitions: `widthOf`, `shareOf`, `modeOf`, `flagOf`.
 use Prim.Native.Nat.{ℕ}
 use mathlib.Core.Bool.{Bool, false, true}
-use Rattle.tree.specs.declared.lookup.LookupParameters.{LookupParameters}
-use Rattle.tree.specs.declared.lookup.LookupParameters.the-variants.{NoLookup, TableIdAsConstant, TableIdAsVariable, UseSpecializedColumnsWithTableIdAsConstant, UseSpecializedColumnsWithTableIdAsVariable}
+use Rattle.parameters.specs.declared.lookup.LookupParameters.{LookupParameters}
+use Rattle.parameters.specs.declared.lookup.LookupParameters.the-variants.{NoLookup, TableIdAsConstant, TableIdAsVariable, UseSpecializedColumnsWithTableIdAsConstant, UseSpecializedColumnsWithTableIdAsVariable}
 
 abbrev pub widthOf : LookupParameters → ℕ
 widthOf NoLookup = 0

@@ -6,9 +6,9 @@ use lib.Dec.{eqb, leb}
 use Rattle.base.specs.Firsts.{orNumber}
 use Rattle.base.specs.Pick.{pick}
 use Rattle.labels.specs.Ranges.{rangesFit}
-use Rattle.tree.specs.declared.lookup.LookupParameters.{LookupParameters}
-use Rattle.tree.specs.declared.lookup.LookupParameters.the-variants.{NoLookup, TableIdAsConstant, TableIdAsVariable, UseSpecializedColumnsWithTableIdAsConstant, UseSpecializedColumnsWithTableIdAsVariable}
-use Rattle.tree.specs.declared.parameters.Parameters.{Parameters}
+use Rattle.parameters.specs.declared.lookup.LookupParameters.{LookupParameters}
+use Rattle.parameters.specs.declared.lookup.LookupParameters.the-variants.{NoLookup, TableIdAsConstant, TableIdAsVariable, UseSpecializedColumnsWithTableIdAsConstant, UseSpecializedColumnsWithTableIdAsVariable}
+use Rattle.parameters.specs.declared.parameters.Parameters.{Parameters}
 
 -- "1 a parameter outside its range (W 1..16 in modes 1 to 4; flag 0 or 1; W and flag 0 in mode 0; S at least 1 in mode 4)". The ranges: "N is the trace length, a
 -- power of two, 1..65,536. C: copy columns, 1..64. A: constants allowed, 0..16. S: specialised constant columns, 0..16. V: variables, 0..1,048,576."

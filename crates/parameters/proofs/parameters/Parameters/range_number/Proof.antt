@@ -1,11 +1,11 @@
 -- `parameters::Parameters::range_number` meets its contract: the code makes the definition's tests in the definition's order.
 -- Assumes nothing.
 use borrow.Author.Needs.{needs}
-use borrow.Author.Tests.{eq-eqb, le-leb, le-ltb, lt-leb, lt-ltb, ne-eqb}
+use borrow.Author.Tests.{eq-eqb, le-leb, lt-leb, ne-eqb}
 use mathlib.Core.Path.{_∙_, sym}
-use Rattle.tree.specs.Parameters.{rangeNumber}
-use Rattle.tree.proofs.parameters.Parameters.range_number.Statement.{statement}
-use Rattle.tree.proofs.parameters.Parameters.range_number.Tie as tie
+use Rattle.parameters.specs.Parameters.{rangeNumber}
+use Rattle.parameters.proofs.parameters.Parameters.range_number.Statement.{statement}
+use Rattle.parameters.proofs.parameters.Parameters.range_number.Tie as tie
 
 ranges-fit-requires : tie.Need-ranges-fit-requires
 ranges-fit-requires c κs = search needs
@@ -14,7 +14,6 @@ returns : tie.Need-returns
 unfolding rangeNumber
 returns c =
     simp (
-      lt-ltb _ _ (c .if2 .taken),
       lt-leb _ _ (c .if2 .taken),
       sym (c .before .before .before .ranges-fit .ensures) ∙ c .before .before .if1 .taken,
     )
@@ -23,10 +22,8 @@ returns-2 : tie.Need-returns-2
 unfolding rangeNumber
 returns-2 c =
     simp (
-      lt-ltb _ _ (c .if3 .taken),
       lt-leb _ _ (c .if3 .taken),
       le-leb _ _ (c .before .before .if2 .left),
-      le-ltb _ _ (c .before .before .if2 .left),
       sym (c .before .before .before .before .before .ranges-fit .ensures) ∙ c .before .before .before .before .if1 .taken,
     )
 
@@ -34,12 +31,9 @@ returns-3 : tie.Need-returns-3
 unfolding rangeNumber
 returns-3 c =
     simp (
-      lt-ltb _ _ (c .if4 .taken),
       lt-leb _ _ (c .if4 .taken),
       le-leb _ _ (c .before .before .if3 .left),
-      le-ltb _ _ (c .before .before .if3 .left),
       le-leb _ _ (c .before .before .before .before .if2 .left),
-      le-ltb _ _ (c .before .before .before .before .if2 .left),
       sym (c .before .before .before .before .before .before .before .ranges-fit .ensures) ∙ c .before .before .before .before .before .before .if1 .taken,
     )
 
@@ -51,11 +45,8 @@ returns-4 c =
       eq-eqb _ _ (c .before .before .if6 .taken),
       eq-eqb _ _ (c .before .before .before .before .if5 .taken),
       le-leb _ _ (c .before .before .before .before .before .before .if4 .left),
-      le-ltb _ _ (c .before .before .before .before .before .before .if4 .left),
       le-leb _ _ (c .before .before .before .before .before .before .before .before .if3 .left),
-      le-ltb _ _ (c .before .before .before .before .before .before .before .before .if3 .left),
       le-leb _ _ (c .before .before .before .before .before .before .before .before .before .before .if2 .left),
-      le-ltb _ _ (c .before .before .before .before .before .before .before .before .before .before .if2 .left),
       sym (c .before .before .before .before .before .before .before .before .before .before .before .before .before .ranges-fit .ensures) ∙ c .before .before .before .before .before .before .before .before .before .before .before .before .if1 .taken,
     )
 
@@ -67,11 +58,8 @@ returns-5 c =
       eq-eqb _ _ (c .before .before .if6 .taken),
       eq-eqb _ _ (c .before .before .before .before .if5 .taken),
       le-leb _ _ (c .before .before .before .before .before .before .if4 .left),
-      le-ltb _ _ (c .before .before .before .before .before .before .if4 .left),
       le-leb _ _ (c .before .before .before .before .before .before .before .before .if3 .left),
-      le-ltb _ _ (c .before .before .before .before .before .before .before .before .if3 .left),
       le-leb _ _ (c .before .before .before .before .before .before .before .before .before .before .if2 .left),
-      le-ltb _ _ (c .before .before .before .before .before .before .before .before .before .before .if2 .left),
       sym (c .before .before .before .before .before .before .before .before .before .before .before .before .before .ranges-fit .ensures) ∙ c .before .before .before .before .before .before .before .before .before .before .before .before .if1 .taken,
     )
 
@@ -82,11 +70,8 @@ returns-6 c =
       ne-eqb _ _ (c .if6 .left),
       eq-eqb _ _ (c .before .before .if5 .taken),
       le-leb _ _ (c .before .before .before .before .if4 .left),
-      le-ltb _ _ (c .before .before .before .before .if4 .left),
       le-leb _ _ (c .before .before .before .before .before .before .if3 .left),
-      le-ltb _ _ (c .before .before .before .before .before .before .if3 .left),
       le-leb _ _ (c .before .before .before .before .before .before .before .before .if2 .left),
-      le-ltb _ _ (c .before .before .before .before .before .before .before .before .if2 .left),
       sym (c .before .before .before .before .before .before .before .before .before .before .before .ranges-fit .ensures) ∙ c .before .before .before .before .before .before .before .before .before .before .if1 .taken,
     )
 
@@ -94,15 +79,11 @@ returns-7 : tie.Need-returns-7
 unfolding rangeNumber
 returns-7 c =
     simp (
-      lt-ltb _ _ (c .if8 .taken),
       lt-leb _ _ (c .if8 .taken),
       ne-eqb _ _ (c .before .before .if5 .left),
       le-leb _ _ (c .before .before .before .before .if4 .left),
-      le-ltb _ _ (c .before .before .before .before .if4 .left),
       le-leb _ _ (c .before .before .before .before .before .before .if3 .left),
-      le-ltb _ _ (c .before .before .before .before .before .before .if3 .left),
       le-leb _ _ (c .before .before .before .before .before .before .before .before .if2 .left),
-      le-ltb _ _ (c .before .before .before .before .before .before .before .before .if2 .left),
       sym (c .before .before .before .before .before .before .before .before .before .before .before .ranges-fit .ensures) ∙ c .before .before .before .before .before .before .before .before .before .before .if1 .taken,
     )
 
@@ -110,17 +91,12 @@ returns-8 : tie.Need-returns-8
 unfolding rangeNumber
 returns-8 c =
     simp (
-      lt-ltb _ _ (c .if9 .taken),
       lt-leb _ _ (c .if9 .taken),
       le-leb _ _ (c .before .before .if8 .left),
-      le-ltb _ _ (c .before .before .if8 .left),
       ne-eqb _ _ (c .before .before .before .before .if5 .left),
       le-leb _ _ (c .before .before .before .before .before .before .if4 .left),
-      le-ltb _ _ (c .before .before .before .before .before .before .if4 .left),
       le-leb _ _ (c .before .before .before .before .before .before .before .before .if3 .left),
-      le-ltb _ _ (c .before .before .before .before .before .before .before .before .if3 .left),
       le-leb _ _ (c .before .before .before .before .before .before .before .before .before .before .if2 .left),
-      le-ltb _ _ (c .before .before .before .before .before .before .before .before .before .before .if2 .left),
       sym (c .before .before .before .before .before .before .before .before .before .before .before .before .before .ranges-fit .ensures) ∙ c .before .before .before .before .before .before .before .before .before .before .before .before .if1 .taken,
     )
 
@@ -128,19 +104,13 @@ returns-9 : tie.Need-returns-9
 unfolding rangeNumber
 returns-9 c =
     simp (
-      lt-ltb _ _ (c .if10 .taken),
       lt-leb _ _ (c .if10 .taken),
       le-leb _ _ (c .before .before .if9 .left),
-      le-ltb _ _ (c .before .before .if9 .left),
       le-leb _ _ (c .before .before .before .before .if8 .left),
-      le-ltb _ _ (c .before .before .before .before .if8 .left),
       ne-eqb _ _ (c .before .before .before .before .before .before .if5 .left),
       le-leb _ _ (c .before .before .before .before .before .before .before .before .if4 .left),
-      le-ltb _ _ (c .before .before .before .before .before .before .before .before .if4 .left),
       le-leb _ _ (c .before .before .before .before .before .before .before .before .before .before .if3 .left),
-      le-ltb _ _ (c .before .before .before .before .before .before .before .before .before .before .if3 .left),
       le-leb _ _ (c .before .before .before .before .before .before .before .before .before .before .before .before .if2 .left),
-      le-ltb _ _ (c .before .before .before .before .before .before .before .before .before .before .before .before .if2 .left),
       sym (c .before .before .before .before .before .before .before .before .before .before .before .before .before .before .before .ranges-fit .ensures) ∙ c .before .before .before .before .before .before .before .before .before .before .before .before .before .before .if1 .taken,
     )
 
@@ -148,21 +118,14 @@ returns-10 : tie.Need-returns-10
 unfolding rangeNumber
 returns-10 c =
     simp (
-      lt-ltb _ _ (c .if11 .taken),
       lt-leb _ _ (c .if11 .taken),
       le-leb _ _ (c .before .before .if10 .left),
-      le-ltb _ _ (c .before .before .if10 .left),
       le-leb _ _ (c .before .before .before .before .if9 .left),
-      le-ltb _ _ (c .before .before .before .before .if9 .left),
       le-leb _ _ (c .before .before .before .before .before .before .if8 .left),
-      le-ltb _ _ (c .before .before .before .before .before .before .if8 .left),
       ne-eqb _ _ (c .before .before .before .before .before .before .before .before .if5 .left),
       le-leb _ _ (c .before .before .before .before .before .before .before .before .before .before .if4 .left),
-      le-ltb _ _ (c .before .before .before .before .before .before .before .before .before .before .if4 .left),
       le-leb _ _ (c .before .before .before .before .before .before .before .before .before .before .before .before .if3 .left),
-      le-ltb _ _ (c .before .before .before .before .before .before .before .before .before .before .before .before .if3 .left),
       le-leb _ _ (c .before .before .before .before .before .before .before .before .before .before .before .before .before .before .if2 .left),
-      le-ltb _ _ (c .before .before .before .before .before .before .before .before .before .before .before .before .before .before .if2 .left),
       sym (c .before .before .before .before .before .before .before .before .before .before .before .before .before .before .before .before .before .ranges-fit .ensures) ∙ c .before .before .before .before .before .before .before .before .before .before .before .before .before .before .before .before .if1 .taken,
     )
 
@@ -170,24 +133,16 @@ returns-11 : tie.Need-returns-11
 unfolding rangeNumber
 returns-11 c =
     simp (
-      lt-ltb _ _ (c .if13 .taken),
       lt-leb _ _ (c .if13 .taken),
       eq-eqb _ _ (c .before .before .if12 .taken),
       le-leb _ _ (c .before .before .before .before .if11 .left),
-      le-ltb _ _ (c .before .before .before .before .if11 .left),
       le-leb _ _ (c .before .before .before .before .before .before .if10 .left),
-      le-ltb _ _ (c .before .before .before .before .before .before .if10 .left),
       le-leb _ _ (c .before .before .before .before .before .before .before .before .if9 .left),
-      le-ltb _ _ (c .before .before .before .before .before .before .before .before .if9 .left),
       le-leb _ _ (c .before .before .before .before .before .before .before .before .before .before .if8 .left),
-      le-ltb _ _ (c .before .before .before .before .before .before .before .before .before .before .if8 .left),
       ne-eqb _ _ (c .before .before .before .before .before .before .before .before .before .before .before .before .if5 .left),
       le-leb _ _ (c .before .before .before .before .before .before .before .before .before .before .before .before .before .before .if4 .left),
-      le-ltb _ _ (c .before .before .before .before .before .before .before .before .before .before .before .before .before .before .if4 .left),
       le-leb _ _ (c .before .before .before .before .before .before .before .before .before .before .before .before .before .before .before .before .if3 .left),
-      le-ltb _ _ (c .before .before .before .before .before .before .before .before .before .before .before .before .before .before .before .before .if3 .left),
       le-leb _ _ (c .before .before .before .before .before .before .before .before .before .before .before .before .before .before .before .before .before .before .if2 .left),
-      le-ltb _ _ (c .before .before .before .before .before .before .before .before .before .before .before .before .before .before .before .before .before .before .if2 .left),
       sym (c .before .before .before .before .before .before .before .before .before .before .before .before .before .before .before .before .before .before .before .before .before .ranges-fit .ensures) ∙ c .before .before .before .before .before .before .before .before .before .before .before .before .before .before .before .before .before .before .before .before .if1 .taken,
     )
 
@@ -196,23 +151,15 @@ unfolding rangeNumber
 returns-12 c =
     simp (
       le-leb _ _ (c .if13 .left),
-      le-ltb _ _ (c .if13 .left),
       eq-eqb _ _ (c .before .before .if12 .taken),
       le-leb _ _ (c .before .before .before .before .if11 .left),
-      le-ltb _ _ (c .before .before .before .before .if11 .left),
       le-leb _ _ (c .before .before .before .before .before .before .if10 .left),
-      le-ltb _ _ (c .before .before .before .before .before .before .if10 .left),
       le-leb _ _ (c .before .before .before .before .before .before .before .before .if9 .left),
-      le-ltb _ _ (c .before .before .before .before .before .before .before .before .if9 .left),
       le-leb _ _ (c .before .before .before .before .before .before .before .before .before .before .if8 .left),
-      le-ltb _ _ (c .before .before .before .before .before .before .before .before .before .before .if8 .left),
       ne-eqb _ _ (c .before .before .before .before .before .before .before .before .before .before .before .before .if5 .left),
       le-leb _ _ (c .before .before .before .before .before .before .before .before .before .before .before .before .before .before .if4 .left),
-      le-ltb _ _ (c .before .before .before .before .before .before .before .before .before .before .before .before .before .before .if4 .left),
       le-leb _ _ (c .before .before .before .before .before .before .before .before .before .before .before .before .before .before .before .before .if3 .left),
-      le-ltb _ _ (c .before .before .before .before .before .before .before .before .before .before .before .before .before .before .before .before .if3 .left),
       le-leb _ _ (c .before .before .before .before .before .before .before .before .before .before .before .before .before .before .before .before .before .before .if2 .left),
-      le-ltb _ _ (c .before .before .before .before .before .before .before .before .before .before .before .before .before .before .before .before .before .before .if2 .left),
       sym (c .before .before .before .before .before .before .before .before .before .before .before .before .before .before .before .before .before .before .before .before .before .ranges-fit .ensures) ∙ c .before .before .before .before .before .before .before .before .before .before .before .before .before .before .before .before .before .before .before .before .if1 .taken,
     )
 
@@ -222,20 +169,13 @@ returns-13 c =
     simp (
       ne-eqb _ _ (c .if12 .left),
       le-leb _ _ (c .before .before .if11 .left),
-      le-ltb _ _ (c .before .before .if11 .left),
       le-leb _ _ (c .before .before .before .before .if10 .left),
-      le-ltb _ _ (c .before .before .before .before .if10 .left),
       le-leb _ _ (c .before .before .before .before .before .before .if9 .left),
-      le-ltb _ _ (c .before .before .before .before .before .before .if9 .left),
       le-leb _ _ (c .before .before .before .before .before .before .before .before .if8 .left),
-      le-ltb _ _ (c .before .before .before .before .before .before .before .before .if8 .left),
       ne-eqb _ _ (c .before .before .before .before .before .before .before .before .before .before .if5 .left),
       le-leb _ _ (c .before .before .before .before .before .before .before .before .before .before .before .before .if4 .left),
-      le-ltb _ _ (c .before .before .before .before .before .before .before .before .before .before .before .before .if4 .left),
       le-leb _ _ (c .before .before .before .before .before .before .before .before .before .before .before .before .before .before .if3 .left),
-      le-ltb _ _ (c .before .before .before .before .before .before .before .before .before .before .before .before .before .before .if3 .left),
       le-leb _ _ (c .before .before .before .before .before .before .before .before .before .before .before .before .before .before .before .before .if2 .left),
-      le-ltb _ _ (c .before .before .before .before .before .before .before .before .before .before .before .before .before .before .before .before .if2 .left),
       sym (c .before .before .before .before .before .before .before .before .before .before .before .before .before .before .before .before .before .before .before .ranges-fit .ensures) ∙ c .before .before .before .before .before .before .before .before .before .before .before .before .before .before .before .before .before .before .if1 .taken,
     )
 

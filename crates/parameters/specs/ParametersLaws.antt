@@ -11,10 +11,10 @@ use native.Mathlib.Decide.{ℕ-discrete}
 use native.Mathlib.Omega.{arith}
 use Rattle.base.specs.Pick.{pick, pick-no, pick-yes, pick-zero}
 use Rattle.labels.specs.Ranges.{rangesFit}
-use Rattle.tree.specs.Lookup.{flagOf, modeOf, shareOf, widthOf}
-use Rattle.tree.specs.Parameters.{lookupOf, rangeNumber}
-use Rattle.tree.specs.declared.lookup.LookupParameters.{LookupParameters}
-use Rattle.tree.specs.declared.parameters.Parameters.{Parameters}
+use Rattle.parameters.specs.Lookup.{flagOf, modeOf, shareOf, widthOf}
+use Rattle.parameters.specs.Parameters.{lookupOf, rangeNumber}
+use Rattle.parameters.specs.declared.lookup.LookupParameters.{LookupParameters}
+use Rattle.parameters.specs.declared.parameters.Parameters.{Parameters}
 
 -- the parameters are in their ranges
 pub record InRange (p : Parameters) : Type 0 where

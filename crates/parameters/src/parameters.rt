@@ -1,6 +1,6 @@
 // The eight parameter words, and the refusals 1 and 2.
 ghost use mathlib.Core.Path.{_≡_};
-ghost use Rattle.tree.specs.Parameters.{rangeNumber, flagNumber, parametersNumber, lookupOf};
+ghost use Rattle.parameters.specs.Parameters.{rangeNumber, flagNumber, parametersNumber, lookupOf};
 use crate::lookup::LookupParameters;
 
 // "A: constants allowed, 0..16. S: specialised constant columns, 0..16. V: variables, 0..1,048,576." W is 1..16 in modes 1 to 4.
@@ -85,7 +85,7 @@ impl Parameters {
     }
 
     // The refusal of the parameters, 1 or 2, or 0.
-    pub(crate) fn number(self) -> u64
+    pub fn number(self) -> u64
         ensures { λ r. ⌜ r ≡ parametersNumber self ⌝ }
     {
         let range = self.range_number();
