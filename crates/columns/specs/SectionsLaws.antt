@@ -43,6 +43,13 @@ or-under f a b e = go (ℕ-discrete f 0)
     go (yes z) = ap (orNumber f) (e z)
     go (no d) = first-found f a d ∙ sym (first-found f b d)
 
+pub or-nothing : (a : ℕ) → orNumber a 0 ≡ a
+or-nothing a = go (ℕ-discrete a 0)
+  where
+    go : Dec (a ≡ 0) → orNumber a 0 ≡ a
+    go (yes z) = first-none a 0 z ∙ sym z
+    go (no d) = first-found a 0 d
+
 or-assoc : (a b c : ℕ) → orNumber (orNumber a b) c ≡ orNumber a (orNumber b c)
 or-assoc a b c = go (ℕ-discrete a 0)
   where
@@ -313,13 +320,6 @@ module _ (x : Setting) (b : Store) (r s c t : List ℕ) (k : Ready x (fresh x b)
   k₄ : f₁ ≡ 0 → f₂ ≡ 0 → f₃ ≡ 0 → f₄ ≡ 0 → Ready x h₄
   unfolding taken
   k₄ e f g i = tables-ready x h₃ (k₃ e f g) t i
-
-  or-nothing : (a : ℕ) → orNumber a 0 ≡ a
-  or-nothing a = go (ℕ-discrete a 0)
-    where
-      go : Dec (a ≡ 0) → orNumber a 0 ≡ a
-      go (yes z) = first-none a 0 z ∙ sym z
-      go (no d) = first-found a 0 d
 
   pub first-pieces : firstRefusal x (sections r s c t) (fresh x b) ≡ piecesFault x r s c t
   unfolding firstRefusal

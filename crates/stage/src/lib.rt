@@ -1,0 +1,2 @@
+// The setup stage in one call: a whole circuit planned, opened, given and finished.
+pub mod circuit;
