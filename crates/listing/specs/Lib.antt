@@ -1,0 +1,6 @@
+pub mod Listing
+pub mod Ends
+pub mod Cursor
+pub mod EndLaws
+pub mod ReaderLaws
+pub mod Worked
