@@ -1,0 +1,75 @@
+-- `stage::listed::run_parts` meets its contract: each section's words are those at its place.
+-- Assumes nothing.
+use borrow.Author.Needs.{needs}
+use mathlib.Core.Path.{_≡_, ap, _∙_}
+use mathlib.Core.List.{List}
+use Prim.Native.Nat.{ℕ}
+use lib.ListN.{length}
+use Rattle.stage.proofs.listed.run_parts.Statement.{statement}
+use Rattle.stage.proofs.listed.run_parts.Tie as tie
+
+part-of-requires : tie.Need-part-of-requires
+part-of-requires c κs = search needs
+
+parameters-from-requires : tie.Need-parameters-from-requires
+parameters-from-requires c κs = ap length (c .part-of .ensures) ∙ c .before .before .before .before .before .before .before .before .before .before .before .before .pre
+
+part-of-requires-2 : tie.Need-part-of-requires-2
+part-of-requires-2 c κs = search needs
+
+part-of-requires-3 : tie.Need-part-of-requires-3
+part-of-requires-3 c κs = search needs
+
+part-of-requires-4 : tie.Need-part-of-requires-4
+part-of-requires-4 c κs = search needs
+
+part-of-requires-5 : tie.Need-part-of-requires-5
+part-of-requires-5 c κs = search needs
+
+part-of-requires-6 : tie.Need-part-of-requires-6
+part-of-requires-6 c κs = search needs
+
+run-sections-requires : tie.Need-run-sections-requires
+run-sections-requires c κs = search needs
+
+same-length : tie.Need-same-length
+same-length c = search needs
+
+same-length-2 : tie.Need-same-length-2
+same-length-2 c = search needs
+
+same-length-3 : tie.Need-same-length-3
+same-length-3 c = search needs
+
+same-length-4 : tie.Need-same-length-4
+same-length-4 c = search needs
+
+returns : tie.Need-returns
+returns c =
+    let w = c .before .before .before .before .before .before .before .before .run-sections .ensures in
+    let n = c .before .before .before .before .before .before .before .before .before .before .before .before .before .before .before .before .before .before .parameters-from .ensures in
+    let e₁ = c .before .before .before .before .before .before .before .before .before .before .before .before .before .before .before .before .before .before .before .part-of .ensures in
+    let e₂ = c .before .before .before .before .before .before .before .before .before .before .before .before .before .before .before .before .before .part-of2 .ensures in
+    let e₃ = c .before .before .before .before .before .before .before .before .before .before .before .before .before .before .before .before .part-of3 .ensures in
+    let e₄ = c .before .before .before .before .before .before .before .before .before .before .before .before .before .before .before .part-of4 .ensures in
+    let e₅ = c .before .before .before .before .before .before .before .before .before .before .before .before .before .before .part-of5 .ensures in
+    let e₆ = c .before .before .before .before .before .before .before .before .before .before .before .before .before .part-of6 .ensures in
+    (rw (n, e₁, e₂, e₃, e₄, e₅, e₆) at (w .0), rw (n, e₁, e₂, e₃, e₄, e₅, e₆) at (w .1))
+
+pub run-parts-spec : {M : Type 1} → statement M
+run-parts-spec =
+    tie.close
+    (tie.spec
+    part-of-requires
+    parameters-from-requires
+    part-of-requires-2
+    part-of-requires-3
+    part-of-requires-4
+    part-of-requires-5
+    part-of-requires-6
+    run-sections-requires
+    same-length
+    same-length-2
+    same-length-3
+    same-length-4
+    returns)

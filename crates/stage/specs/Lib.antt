@@ -1,0 +1,4 @@
+pub mod Circuit
+pub mod CircuitLaws
+pub mod Listed
+pub mod Accepted
