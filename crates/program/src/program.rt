@@ -1,6 +1,7 @@
 // 01, 'Listing': "The program `setup` reads standard input, at most 65,536 bytes, and lends 8,192 words
 // for each buffer."
 ghost use mathlib.Core.Path.{_≡_};
+ghost use Rattle.io.specs.Counts.{Counts};
 ghost use Rattle.bytes.specs.Text.{sink, put};
 ghost use Rattle.program.specs.Program.{printed, programText};
 use bytes::words::read_words;
@@ -33,6 +34,7 @@ fn run_words(words: &[u64], out: &mut [u8]) -> usize
 
 // What is printed for the bytes of an input. Bytes past the buffer's end are dropped.
 pub fn run_bytes(bytes: &[u8], out: &mut [u8]) -> usize
+    ensures { λ r. ⌜ Counts r (now (out .exit)) ⌝ }
     ensures { λ r. ⌜ sink (now (out .exit)) r ≡ put (sink (now (out .entry)) 0) (programText (now (bytes .entry))) ⌝ }
 {
     if MOST_BYTES < bytes.len() {

@@ -9,6 +9,7 @@ use Prim.Native.Nat.{ℕ, _/_, _%_, _≤_}
 use Rattle.bytes.specs.Text.{sink, put}
 use Rattle.bytes.specs.Words.{wordsOf, wordsRead}
 use Rattle.bytes.specs.WordLaws.{words-whole}
+use Rattle.bytes.specs.TextLaws.{put-counts}
 use Rattle.program.specs.Program.{printed}
 use Rattle.program.specs.ProgramLaws.{text-long, text-odd, text-words}
 use borrow.Author.Needs.{needs}
@@ -27,7 +28,7 @@ same-length : tie.Need-same-length
 same-length c = search needs
 
 returns : tie.Need-returns
-returns c = c .before .before .put-refused .ensures ∙ ap (put (sink (c .before .before .before .before .before .before .before .args .out .now) 0)) (text-long (c .before .before .before .before .before .before .before .args .bytes .now) (c .before .before .before .before .if1 .taken))
+returns c = let e = c .before .before .put-refused .ensures ∙ ap (put (sink (c .before .before .before .before .before .before .before .args .out .now) 0)) (text-long (c .before .before .before .before .before .before .before .args .bytes .now) (c .before .before .before .before .if1 .taken)) in (put-counts _ _ _ _ e, e)
 
 put-refused-requires-2 : tie.Need-put-refused-requires-2
 put-refused-requires-2 c κs = search needs
@@ -36,7 +37,8 @@ same-length-2 : tie.Need-same-length-2
 same-length-2 c = search needs
 
 returns-2 : tie.Need-returns-2
-returns-2 c = c .before .before .put-refused2 .ensures ∙ ap (put (sink (c .before .before .before .before .before .before .before .before .args .out .now) 0)) (text-odd (c .before .before .before .before .before .before .before .before .args .bytes .now) (omega (arith, c .before .before .before .before .before .if1 .left)) (c .before .before .before .before .if2 .taken))
+returns-2 c =
+    let e = c .before .before .put-refused2 .ensures ∙ ap (put (sink (c .before .before .before .before .before .before .before .before .args .out .now) 0)) (text-odd (c .before .before .before .before .before .before .before .before .args .bytes .now) (omega (arith, c .before .before .before .before .before .if1 .left)) (c .before .before .before .before .if2 .taken)) in (put-counts _ _ _ _ e, e)
 
 slice-aggregate-read-words : tie.Need-slice-aggregate-read-words
 slice-aggregate-read-words c = search needs
@@ -67,7 +69,7 @@ returns-3 c =
     let n : length (a .bytes .now) % 8 ≡ 0 = c .before .before .before .before .before .before .before .before .if2 .left in
     let h : length (a .bytes .now) / 8 ≤ length (replicate {A = ℕ} 8192 0) = omega (arith, c .before .before .before .before .before .before .before .before .before .if1 .left, length-replicate {A = ℕ} 8192 0) in
     let e : take (w .result) (w .last .1 .0) ≡ wordsOf (a .bytes .now) = ap (λ (k : ℕ). take k (w .last .1 .0)) (w .ensures .0) ∙ ap (take (wordsRead (a .bytes .now) (replicate 8192 0))) (w .ensures .1) ∙ words-whole (a .bytes .now) (replicate 8192 0) h in
-    c .before .before .run-words .ensures ∙ ap (λ (ws : List ℕ). put (sink (a .out .now) 0) (printed ws)) e ∙ ap (put (sink (a .out .now) 0)) (text-words (a .bytes .now) (omega (arith, c .before .before .before .before .before .before .before .before .before .if1 .left)) n)
+    let t = c .before .before .run-words .ensures ∙ ap (λ (ws : List ℕ). put (sink (a .out .now) 0) (printed ws)) e ∙ ap (put (sink (a .out .now) 0)) (text-words (a .bytes .now) (omega (arith, c .before .before .before .before .before .before .before .before .before .if1 .left)) n) in (put-counts _ _ _ _ t, t)
 
 pub run-bytes-spec : {M : Type 1} → statement M
 run-bytes-spec =
