@@ -1,6 +1,6 @@
 -- 01, 'Listing': "20 ..; then as above in section order".
 --
--- Main definitions: `parametersFrom`, `wordsAnswer`, `wordsLeft`, `listedAnswer`, `listedLeft`. Main statements: `listed-whole`, `listed-refused`.
+-- Main definitions: `parametersFrom`, `wordsAnswer`, `wordsLeft`, `listedAnswer`, `listedLeft`. Main statements: `listed-whole`, `listed-refused`, `words-same`.
 use mathlib.Core.Path.{_≡_, sym, ap}
 use mathlib.Core.List.{List}
 use Prim.Native.Nat.{ℕ}
@@ -57,3 +57,8 @@ module _ (ws : List ℕ) (b : Store) where
   pub listed-refused : (n : ℕ) → read ws ≡ refused n → (_≡_ {A = Staged} (record { number = n; plan = zeroPlan }) (listedAnswer ws b)) × (b ≡ listedLeft ws b)
   unfolding listedAnswer listedLeft
   listed-refused n e = (sym (ap (λ (r : Reading). answerBy r b) e), sym (ap (λ (r : Reading). leftBy r b) e))
+
+-- the same circuit, from equal sections
+pub words-same : (w : Words) (b : Store) (ps : Parameters) (g r s c t : List ℕ) → ps ≡ parametersFrom (w .parameters) → g ≡ w .gates → r ≡ w .rows → s ≡ w .sWords → c ≡ w .cells → t ≡ w .tables
+    → (stageAnswer ps g r s c t b ≡ wordsAnswer w b) × (stageLeft ps g r s c t b ≡ wordsLeft w b)
+words-same w b ps g r s c t e₁ e₂ e₃ e₄ e₅ e₆ = (rw (e₁, e₂, e₃, e₄, e₅, e₆), rw (e₁, e₂, e₃, e₄, e₅, e₆))
