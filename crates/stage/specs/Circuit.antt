@@ -30,11 +30,14 @@ stageNumber ps gs r s c t b =
     orNumber (planNumber ps gs) (orNumber opened given)
 
 -- "Refused planning, path or opening hands back a plan, path or state of zeros": so does every refusal here
+abbrev pub refusedBy : ℕ → Staged
+refusedBy n = record { number = n; plan = zeroPlan }
+
 unfoldable pub stageAnswer : Parameters → List ℕ → List ℕ → List ℕ → List ℕ → List ℕ → Store → Staged
 stageAnswer ps gs r s c t b =
     pick (eqb (stageNumber ps gs r s c t b) 0)
     (record { number = 0; plan = planned ps gs })
-    (record { number = stageNumber ps gs r s c t b; plan = zeroPlan })
+    (refusedBy (stageNumber ps gs r s c t b))
 
 -- "A refusal returns its number ..; no word is written.": all words of the four buffers are what they were before the whole call
 unfoldable pub stageLeft : Parameters → List ℕ → List ℕ → List ℕ → List ℕ → List ℕ → Store → Store

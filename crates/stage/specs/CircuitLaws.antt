@@ -1,7 +1,7 @@
 -- The number of a whole circuit is that of the columns' test, since no finishing after a fresh opening is refused with 18; and a chain of calls leaves what the
 -- list of calls leaves.
 --
--- Main definitions: `Held-by`. Main statements: `number-planning`, `number-sections`, `answer-refused`, `answer-taken`; `by-opening`, `by-rows`, `by-words`, `by-cells`, `by-tables`,
+-- Main definitions: `plannedLeft`, `Held-by`. Main statements: `number-planning`, `number-sections`, `answer-refused`, `answer-taken`, `left-planned`; `by-opening`, `by-rows`, `by-words`, `by-cells`, `by-tables`,
 -- `by-finishing`.
 use mathlib.Core.Path.{_≡_, refl, sym, ap, _∙_}
 use mathlib.Core.Logic.{_≢_}
@@ -12,13 +12,13 @@ use lib.Dec.{eqb}
 use borrow.Author.Tests.{eq-eqb, ne-eqb}
 use Rattle.base.specs.Firsts.{orNumber, first-none, first-found, first-zero}
 use Rattle.base.specs.Pick.{pick}
-use Rattle.tree.specs.Plan.{zeroPlan, planNumber, planned}
+use Rattle.tree.specs.Plan.{planNumber, planned}
 use Rattle.parameters.specs.declared.parameters.Parameters.{Parameters}
 use Rattle.tree.specs.declared.plan.Plan.{Plan}
 use Rattle.pieces.specs.Setting.{Setting, Store, Held, Cols, cols}
 use Rattle.pieces.specs.Opening.{openNumber, fresh}
 use Rattle.pieces.specs.Calls.{Call, rows, sWords, cellWords, tableWords, finishing, number, taken, after, run}
-use Rattle.columns.specs.Intake.{settingOf, withState, storeOf, openAnswer, openLeft, rowsAnswer, rowsLeft, sWordsAnswer, sWordsLeft, cellsAnswer, cellsLeft, tablesAnswer, tablesLeft, finishAnswer, finishLeft}
+use Rattle.columns.specs.Intake.{settingOf, withState, storeOf, unlessRefused, openAnswer, openLeft, rowsAnswer, rowsLeft, sWordsAnswer, sWordsLeft, cellsAnswer, cellsLeft, tablesAnswer, tablesLeft, finishAnswer, finishLeft}
 use Rattle.columns.specs.IntakeLaws.{open-taken}
 use Rattle.columns.specs.Sections.{firstRefusal, sections, finishTested, sectionsNumber}
 use Rattle.columns.specs.SectionsLaws.{or-under, or-nothing, first-append, finish-tested}
@@ -26,7 +26,7 @@ use Rattle.columns.specs.declared.intake.Intake.{Intake}
 use Rattle.columns.specs.declared.intake.Taken.{Taken}
 use Rattle.claim.specs.Statement.{told, settingFor, Opened, held}
 use Rattle.claim.specs.Theorem.{claim, all-obey}
-use Rattle.stage.specs.Circuit.{calls, stageNumber, stageAnswer, stageLeft}
+use Rattle.stage.specs.Circuit.{calls, refusedBy, stageNumber, stageAnswer, stageLeft}
 use Rattle.stage.specs.declared.circuit.Staged.{Staged}
 
 -- ---- the number
@@ -53,7 +53,7 @@ module _ (ps : Parameters) (gs r s c t : List ℕ) (b : Store) where
       ∙ ap (orNumber (firstRefusal x (sections r s c t) (fresh x b))) (last-number (record { planning = e; opening = o })))
 
   pub answer-refused : (n : ℕ) → n ≡ stageNumber ps gs r s c t b → n ≢ 0
-      → (_≡_ {A = Staged} (record { number = n; plan = zeroPlan }) (stageAnswer ps gs r s c t b)) × (b ≡ stageLeft ps gs r s c t b)
+      → (refusedBy n ≡ stageAnswer ps gs r s c t b) × (b ≡ stageLeft ps gs r s c t b)
   unfolding stageAnswer stageLeft
   answer-refused n e d = rw (← e) (sym (rw (ne-eqb n 0 d)), sym (rw (ne-eqb n 0 d)))
 
@@ -61,6 +61,24 @@ module _ (ps : Parameters) (gs r s c t : List ℕ) (b : Store) where
       → (_≡_ {A = Staged} (record { number = 0; plan = planned ps gs }) (stageAnswer ps gs r s c t b)) × (held ps gs b (calls r s c t) .store ≡ stageLeft ps gs r s c t b)
   unfolding stageAnswer stageLeft
   answer-taken e = (sym (rw (eq-eqb (stageNumber ps gs r s c t b) 0 e)), sym (rw (eq-eqb (stageNumber ps gs r s c t b) 0 e)))
+
+-- ---- the same for a plan that is given
+unfoldable pub plannedLeft : Plan → List ℕ → List ℕ → List ℕ → List ℕ → Store → Store
+plannedLeft q r s c t b = unlessRefused (sectionsNumber (settingOf q) b r s c t) (run (settingOf q) (calls r s c t) (fresh (settingOf q) b) .store) b
+
+module _ (q : Plan) (r s c t : List ℕ) (b : Store) where
+  pub planned-refused : sectionsNumber (settingOf q) b r s c t ≢ 0 → b ≡ plannedLeft q r s c t b
+  unfolding plannedLeft
+  planned-refused d = sym (rw (ne-eqb (sectionsNumber (settingOf q) b r s c t) 0 d))
+
+  pub planned-taken : sectionsNumber (settingOf q) b r s c t ≡ 0 → run (settingOf q) (calls r s c t) (fresh (settingOf q) b) .store ≡ plannedLeft q r s c t b
+  unfolding plannedLeft
+  planned-taken e = sym (rw (eq-eqb (sectionsNumber (settingOf q) b r s c t) 0 e))
+
+-- what planning's plan leaves is what the whole call leaves
+pub left-planned : (ps : Parameters) (gs r s c t : List ℕ) (b : Store) → planNumber ps gs ≡ 0 → plannedLeft (planned ps gs) r s c t b ≡ stageLeft ps gs r s c t b
+unfolding plannedLeft stageLeft
+left-planned ps gs r s c t b e = sym (rw (number-sections ps gs r s c t b e))
 
 -- ---- the code's state and buffers are what is held
 pub record Held-by (q : Plan) (h : Held) (i : Intake) (constants copies scratch tables : List ℕ) : Type 0 where

@@ -2,3 +2,4 @@ pub mod Circuit
 pub mod CircuitLaws
 pub mod Listed
 pub mod Accepted
+pub mod Worked

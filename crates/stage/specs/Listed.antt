@@ -1,15 +1,14 @@
 -- 01, 'Listing': "20 ..; then as above in section order".
 --
--- Main definitions: `parametersFrom`, `wordsAnswer`, `wordsLeft`, `listedAnswer`, `listedLeft`. Main statements: `listed-whole`, `listed-refused`.
+-- Main definitions: `parametersFrom`, `wordsAnswer`, `wordsLeft`, `listedAnswer`, `listedLeft`. Main statements: `listed-whole`, `listed-refused`, `words-same`.
 use mathlib.Core.Path.{_≡_, sym, ap}
 use mathlib.Core.List.{List}
 use Prim.Native.Nat.{ℕ}
 use lib.ListN.{getD}
-use Rattle.tree.specs.Plan.{zeroPlan}
 use Rattle.parameters.specs.declared.parameters.Parameters.{Parameters}
 use Rattle.pieces.specs.Setting.{Store}
 use Rattle.listing.specs.Listing.{Words, Reading, whole, refused, read}
-use Rattle.stage.specs.Circuit.{stageAnswer, stageLeft}
+use Rattle.stage.specs.Circuit.{refusedBy, stageAnswer, stageLeft}
 use Rattle.stage.specs.declared.circuit.Staged.{Staged}
 
 -- "parameters (8 words: N, C, A, S, V, mode, W, share flag)"
@@ -36,7 +35,7 @@ wordsLeft w b = stageLeft (parametersFrom (w .parameters)) (w .gates) (w .rows) 
 -- "20 .., tested over the whole input before all else": a refusal of the listing writes no word and hands back a plan of zeros
 abbrev pub answerBy : Reading → Store → Staged
 answerBy (whole w) b = wordsAnswer w b
-answerBy (refused n) b = record { number = n; plan = zeroPlan }
+answerBy (refused n) b = refusedBy n
 
 abbrev pub leftBy : Reading → Store → Store
 leftBy (whole w) b = wordsLeft w b
@@ -54,6 +53,11 @@ module _ (ws : List ℕ) (b : Store) where
   unfolding listedAnswer listedLeft
   listed-whole w e = (sym (ap (λ (r : Reading). answerBy r b) e), sym (ap (λ (r : Reading). leftBy r b) e))
 
-  pub listed-refused : (n : ℕ) → read ws ≡ refused n → (_≡_ {A = Staged} (record { number = n; plan = zeroPlan }) (listedAnswer ws b)) × (b ≡ listedLeft ws b)
+  pub listed-refused : (n : ℕ) → read ws ≡ refused n → (refusedBy n ≡ listedAnswer ws b) × (b ≡ listedLeft ws b)
   unfolding listedAnswer listedLeft
   listed-refused n e = (sym (ap (λ (r : Reading). answerBy r b) e), sym (ap (λ (r : Reading). leftBy r b) e))
+
+-- the same circuit, from equal sections
+pub words-same : (w : Words) (b : Store) (ps : Parameters) (g r s c t : List ℕ) → ps ≡ parametersFrom (w .parameters) → g ≡ w .gates → r ≡ w .rows → s ≡ w .sWords → c ≡ w .cells → t ≡ w .tables
+    → (stageAnswer ps g r s c t b ≡ wordsAnswer w b) × (stageLeft ps g r s c t b ≡ wordsLeft w b)
+words-same w b ps g r s c t e₁ e₂ e₃ e₄ e₅ e₆ = (rw (e₁, e₂, e₃, e₄, e₅, e₆), rw (e₁, e₂, e₃, e₄, e₅, e₆))

@@ -6,13 +6,13 @@ ghost use Rattle.listing.specs.Ends.{cut, wordsAt};
 ghost use Rattle.columns.specs.Intake.{storeOf};
 ghost use Rattle.stage.specs.Listed.{parametersFrom, wordsAnswer, wordsLeft, listedAnswer, listedLeft};
 use crate::circuit::Staged;
+use crate::circuit::refused;
 use crate::circuit::run_sections;
 use listing::cursor::part_of;
 use listing::cursor::sections_of;
 use listing::sections::Listing;
 use listing::sections::Sections;
 use parameters::parameters::Parameters;
-use tree::plan::Plan;
 
 // The eight parameter words, by name.
 fn parameters_from(words: &[u64]) -> Parameters
@@ -78,9 +78,6 @@ pub fn run_listing(
     let listing = sections_of(words);
     match listing {
         Listing::Whole(sections) => run_parts(words, sections, constants, copies, scratch, tables),
-        Listing::Refused(number) => Staged {
-            number: number,
-            plan: Plan::zero(),
-        },
+        Listing::Refused(number) => refused(number),
     }
 }

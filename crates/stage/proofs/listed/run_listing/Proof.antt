@@ -4,17 +4,12 @@ use borrow.Author.Needs.{needs}
 use mathlib.Core.Path.{_≡_, sym, ap, _∙_}
 use mathlib.Core.List.{List}
 use Prim.Native.Nat.{ℕ}
-use Rattle.tree.specs.declared.plan.Plan.{Plan}
 use Rattle.columns.specs.Intake.{storeOf}
 use Rattle.listing.specs.Ends.{wordsAt}
 use Rattle.listing.specs.ReaderLaws.{read-whole, read-refused, read-eight}
 use Rattle.stage.specs.Listed.{listed-whole, listed-refused}
-use Rattle.stage.specs.declared.circuit.Staged.{Staged}
 use Rattle.stage.proofs.listed.run_listing.Statement.{statement}
 use Rattle.stage.proofs.listed.run_listing.Tie as tie
-
-abbrev staged : ℕ → Plan → Staged
-staged n q = record { number = n; plan = q }
 
 sections-of-requires : tie.Need-sections-of-requires
 sections-of-requires c κs = search needs
@@ -31,8 +26,8 @@ run-parts-requires c κs =
 enum-known-listing-2 : tie.Need-enum-known-listing-2
 enum-known-listing-2 c = search needs
 
-zero-requires : tie.Need-zero-requires
-zero-requires c κs = search needs
+refused-requires : tie.Need-refused-requires
+refused-requires c κs = search needs
 
 same-length : tie.Need-same-length
 same-length c = search needs
@@ -63,7 +58,7 @@ returns-2 c =
     let b = storeOf (a .constants .now) (a .copies .now) (a .scratch .now) (a .tables .now) in
     let g = c .before .before .listing2 .given in
     let k = listed-refused ws b (g .0 .0) (read-refused ws (g .0 .0) (sym (g .1) ∙ c .before .before .before .before .sections-of .ensures)) in
-    (ap (staged (g .0 .0)) (c .zero .ensures) ∙ k .0, k .1)
+    (c .refused .ensures ∙ k .0, k .1)
 
 pub run-listing-spec : {M : Type 1} → statement M
 run-listing-spec =
@@ -73,7 +68,7 @@ run-listing-spec =
     enum-known-listing
     run-parts-requires
     enum-known-listing-2
-    zero-requires
+    refused-requires
     same-length
     same-length-2
     same-length-3

@@ -5,6 +5,9 @@ use mathlib.Core.Path.{_≡_, ap, _∙_}
 use mathlib.Core.List.{List}
 use Prim.Native.Nat.{ℕ}
 use lib.ListN.{length}
+use Rattle.columns.specs.Intake.{storeOf}
+use Rattle.listing.specs.Ends.{wordsAt}
+use Rattle.stage.specs.Listed.{parametersFrom, words-same}
 use Rattle.stage.proofs.listed.run_parts.Statement.{statement}
 use Rattle.stage.proofs.listed.run_parts.Tie as tie
 
@@ -46,15 +49,19 @@ same-length-4 c = search needs
 
 returns : tie.Need-returns
 returns c =
+    let a = c .before .before .before .before .before .before .before .before .before .before .before .before .before .before .before .before .before .before .before .before .before .before .before .before .before .before .before .before .before .before .before .args in
     let w = c .before .before .before .before .before .before .before .before .run-sections .ensures in
-    let n = c .before .before .before .before .before .before .before .before .before .before .before .before .before .before .before .before .before .before .parameters-from .ensures in
-    let e₁ = c .before .before .before .before .before .before .before .before .before .before .before .before .before .before .before .before .before .before .before .part-of .ensures in
-    let e₂ = c .before .before .before .before .before .before .before .before .before .before .before .before .before .before .before .before .before .part-of2 .ensures in
-    let e₃ = c .before .before .before .before .before .before .before .before .before .before .before .before .before .before .before .before .part-of3 .ensures in
-    let e₄ = c .before .before .before .before .before .before .before .before .before .before .before .before .before .before .before .part-of4 .ensures in
-    let e₅ = c .before .before .before .before .before .before .before .before .before .before .before .before .before .before .part-of5 .ensures in
-    let e₆ = c .before .before .before .before .before .before .before .before .before .before .before .before .before .part-of6 .ensures in
-    (rw (n, e₁, e₂, e₃, e₄, e₅, e₆) at (w .0), rw (n, e₁, e₂, e₃, e₄, e₅, e₆) at (w .1))
+    let k =
+    words-same (wordsAt (a .words .now) (a .sections)) (storeOf (a .constants .now) (a .copies .now) (a .scratch .now) (a .tables .now)) (c .before .before .before .before .before .before .before .before .before .before .before .before .before .before .before .before .before .before .parameters-from .result)
+    (c .before .before .before .before .before .before .before .before .before .before .before .before .before .before .before .before .before .part-of2 .result .now) (c .before .before .before .before .before .before .before .before .before .before .before .before .before .before .before .before .part-of3 .result .now) (c .before .before .before .before .before .before .before .before .before .before .before .before .before .before .before .part-of4 .result .now) (c .before .before .before .before .before .before .before .before .before .before .before .before .before .before .part-of5 .result .now) (c .before .before .before .before .before .before .before .before .before .before .before .before .before .part-of6 .result .now)
+    (c .before .before .before .before .before .before .before .before .before .before .before .before .before .before .before .before .before .before .parameters-from .ensures ∙ ap parametersFrom (c .before .before .before .before .before .before .before .before .before .before .before .before .before .before .before .before .before .before .before .part-of .ensures))
+    (c .before .before .before .before .before .before .before .before .before .before .before .before .before .before .before .before .before .part-of2 .ensures)
+    (c .before .before .before .before .before .before .before .before .before .before .before .before .before .before .before .before .part-of3 .ensures)
+    (c .before .before .before .before .before .before .before .before .before .before .before .before .before .before .before .part-of4 .ensures)
+    (c .before .before .before .before .before .before .before .before .before .before .before .before .before .before .part-of5 .ensures)
+    (c .before .before .before .before .before .before .before .before .before .before .before .before .before .part-of6 .ensures)
+    in
+    (w .0 ∙ k .0, w .1 ∙ k .1)
 
 pub run-parts-spec : {M : Type 1} → statement M
 run-parts-spec =
