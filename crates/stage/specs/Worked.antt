@@ -10,7 +10,7 @@ use Rattle.base.specs.Exponent.{exponentFrom}
 use Rattle.base.specs.Firsts.{orNumber}
 use Rattle.labels.specs.Ranges.{rangesFit}
 use Rattle.selector.specs.Refusals.{wordsFit, gatesNumber, recordNumber, recordsNumber}
-use Rattle.tree.specs.Parameters.{rangeNumber, flagNumber, parametersNumber}
+use Rattle.parameters.specs.Parameters.{rangeNumber, flagNumber, parametersNumber}
 use Rattle.tree.specs.Plan.{wordsNumber, planNumber}
 use Rattle.pieces.specs.Setting.{Store, cols}
 use Rattle.listing.specs.Listing.{off, records, section, sixSections, read}
