@@ -1,0 +1,25 @@
+use borrow.Author.Needs.{needs}
+use Rattle.capi.proofs.encoding.hand.Statement.{statement}
+use Rattle.capi.proofs.encoding.hand.Tie as tie
+use Rattle.capi.proofs.encoding.hand.Reads as reads
+use Rattle.capi.proofs.encoding.hand.Lts as lts
+use Rattle.capi.proofs.encoding.copy_words.Reads as copy-words-reads
+
+-- src/encoding.rt:48:9
+copy-words-requires : tie.Need-copy-words-requires
+copy-words-requires c κs = search needs
+
+-- src/encoding.rt:44:1
+same-length : tie.Need-same-length
+same-length c = search needs
+
+-- src/encoding.rt:44:1
+returns : tie.Need-returns
+returns c = ?
+
+-- src/encoding.rt:44:1
+returns-2 : tie.Need-returns-2
+returns-2 c = ?
+
+pub hand-spec : {M : Type 1} → statement M
+hand-spec = tie.close (tie.spec copy-words-requires same-length returns returns-2)

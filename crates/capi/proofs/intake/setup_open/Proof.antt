@@ -1,0 +1,74 @@
+use borrow.Author.Needs.{needs}
+use Rattle.capi.proofs.intake.setup_open.Statement.{statement}
+use Rattle.capi.proofs.intake.setup_open.Tie as tie
+use Rattle.capi.proofs.intake.setup_open.Reads as reads
+use Rattle.capi.proofs.intake.setup_open.Lts as lts
+use Rattle.capi.proofs.encoding.decode_plan.Reads as decode-plan-reads
+use Rattle.capi.proofs.encoding.encode_state.Reads as encode-state-reads
+use Rattle.columns.proofs.intake.Intake.open.Reads as open-reads
+use Rattle.tree.proofs.plan.Plan.fault.Reads as fault-reads
+
+-- src/intake.rt:42:9
+decode-plan-requires : tie.Need-decode-plan-requires
+decode-plan-requires c κs = search needs
+
+-- src/intake.rt:44:12
+fault-requires : tie.Need-fault-requires
+fault-requires c κs = search needs
+
+-- src/intake.rt:45:13
+returns : tie.Need-returns
+returns c = ?
+
+-- src/intake.rt:47:9
+returns-2 : tie.Need-returns-2
+returns-2 c = ?
+
+-- src/intake.rt:49:9
+open-requires : tie.Need-open-requires
+open-requires c κs = search needs
+
+-- src/intake.rt:51:5
+encode-state-requires : tie.Need-encode-state-requires
+encode-state-requires c κs = search needs
+
+-- src/intake.rt:29:1
+same-length : tie.Need-same-length
+same-length c = search needs
+
+-- src/intake.rt:29:1
+same-length-2 : tie.Need-same-length-2
+same-length-2 c = search needs
+
+-- src/intake.rt:29:1
+same-length-3 : tie.Need-same-length-3
+same-length-3 c = search needs
+
+-- src/intake.rt:29:1
+same-length-4 : tie.Need-same-length-4
+same-length-4 c = search needs
+
+-- src/intake.rt:29:1
+same-length-5 : tie.Need-same-length-5
+same-length-5 c = search needs
+
+-- src/intake.rt:29:1
+returns-3 : tie.Need-returns-3
+returns-3 c = ?
+
+pub setup-open-spec : {M : Type 1} → statement M
+setup-open-spec =
+    tie.close
+    (tie.spec
+    decode-plan-requires
+    fault-requires
+    returns
+    returns-2
+    open-requires
+    encode-state-requires
+    same-length
+    same-length-2
+    same-length-3
+    same-length-4
+    same-length-5
+    returns-3)

@@ -1,0 +1,32 @@
+use Rattle.capi.specs.Planning.{withRoom}
+use borrow.Author.Tests.{lt-ltb, le-ltb, le-leb, lt-leb, eq-eqb, ne-eqb}
+use mathlib.Core.Path.{sym, _∙_}
+use Rattle.capi.proofs.planning.with_room.Statement.{statement}
+use Rattle.capi.proofs.planning.with_room.Tie as tie
+use Rattle.capi.proofs.planning.with_room.Reads as reads
+use Rattle.capi.proofs.planning.with_room.Lts as lts
+
+-- src/planning.rt:19:9
+returns : tie.Need-returns
+unfolding withRoom
+returns c =
+    simp (eq-eqb _ _ (c .if1 .taken))
+
+-- src/planning.rt:22:9
+returns-2 : tie.Need-returns-2
+unfolding withRoom
+returns-2 c =
+    simp (le-leb _ _ (c .if2 .taken),
+    le-ltb _ _ (c .if2 .taken),
+    ne-eqb _ _ (c .before .if1 .left))
+
+-- src/planning.rt:15:1
+returns-3 : tie.Need-returns-3
+unfolding withRoom
+returns-3 c =
+    simp (lt-ltb _ _ (c .if2 .left),
+    lt-leb _ _ (c .if2 .left),
+    ne-eqb _ _ (c .before .if1 .left))
+
+pub with-room-spec : {M : Type 1} → statement M
+with-room-spec = tie.close (tie.spec returns returns-2 returns-3)
