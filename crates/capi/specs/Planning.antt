@@ -3,11 +3,14 @@
 -- Main definitions: `planCall`, `planLeft`; `pathCall`, `pathLeft`; `tableIdCall`, `tableIdLeft`; `statsCall`, `statsLeft`; `labelCall`, `labelLeft`.
 use Prim.Native.Nat.{ℕ}
 use lib.Dec.{eqb, leb}
-use lib.ListN.{length}
-use mathlib.Core.List.{List, [], _∷_}
+use lib.ListN.{drop, length}
+use mathlib.Core.List.{List, [], _++_, _∷_}
+use Rattle.base.specs.Firsts.{orNumber}
 use Rattle.base.specs.Pick.{pick}
 use Rattle.labels.specs.Labels.{labelAnswer, labelNumber}
 use Rattle.tree.specs.Plan.{pathAnswer, planFault, planNumber, planned, tableIdAnswer}
+use Rattle.tree.specs.declared.plan.Plan.{Plan}
+use Rattle.tree.specs.declared.plan.TableId.{TableId}
 use Rattle.capi.specs.Encoding.{handed, parametersAt, planLength, planOf, planWords}
 
 -- how many parameter words there are; any other number is 20, "wrong parameter count"
@@ -25,7 +28,10 @@ planCall ps gs out =
 
 -- "Refused planning, path or opening hands back a plan, path or state of zeros": those of 1 to 8 do; 20 and 10 write nothing
 unfoldable pub planLeft : List ℕ → List ℕ → List ℕ → List ℕ
-planLeft ps gs out = pick (eqb (length ps) parameterCount) (handed (planWords (planned (parametersAt ps) gs)) out) out
+planLeft ps gs out =
+    pick (eqb (length ps) parameterCount)
+    (pick (leb planLength (length out)) (planWords (planned (parametersAt ps) gs) ++ drop planLength out) out)
+    out
 
 -- "Path: 19; 12 gate not listed."
 unfoldable pub pathCall : List ℕ → ℕ → List ℕ → ℕ
@@ -35,21 +41,35 @@ pathCall ws g out = withRoom 2 (length out) (pathAnswer (planOf ws) g .number)
 unfoldable pub pathLeft : List ℕ → ℕ → List ℕ → List ℕ
 pathLeft ws g out = handed (pathAnswer (planOf ws) g .bits ∷ pathAnswer (planOf ws) g .length ∷ []) out
 
-unfoldable pub tableIdCall : List ℕ → List ℕ → ℕ
-tableIdCall ws out = withRoom 2 (length out) (tableIdAnswer (planOf ws) .number)
+-- the number of a call that may be refused and then hands out words: its refusal, then 10 for the result slice
+unfoldable pub handNumber : ℕ → List ℕ → List ℕ → ℕ
+handNumber n new out = orNumber n (pick (leb (length new) (length out)) 0 10)
 
--- count and index; "no word is written" after 19
-unfoldable pub tableIdLeft : List ℕ → List ℕ → List ℕ
-tableIdLeft ws out =
-    pick (eqb (tableIdAnswer (planOf ws) .number) 0) (handed (tableIdAnswer (planOf ws) .count ∷ tableIdAnswer (planOf ws) .index ∷ []) out) out
+-- "no word is written" after a refusal
+unfoldable pub handLeft : ℕ → List ℕ → List ℕ → List ℕ
+handLeft n new out = pick (eqb n 0) (handed new out) out
 
-unfoldable pub statsCall : List ℕ → List ℕ → ℕ
-statsCall ws out = withRoom 3 (length out) (planFault (planOf ws))
+-- how many table-id columns there are, and its index
+abbrev pub idWords : TableId → List ℕ
+idWords t = t .count ∷ t .index ∷ []
 
--- D, K and F; "no word is written" after 19
-unfoldable pub statsLeft : List ℕ → List ℕ → List ℕ
-statsLeft ws out =
-    pick (eqb (planFault (planOf ws)) 0) (handed (planOf ws .degree ∷ planOf ws .constants ∷ planOf ws .factor ∷ []) out) out
+-- "Table-id column": 19, then 10
+abbrev pub tableIdCall : List ℕ → List ℕ → ℕ
+tableIdCall ws out = handNumber (tableIdAnswer (planOf ws) .number) (idWords (tableIdAnswer (planOf ws))) out
+
+abbrev pub tableIdLeft : List ℕ → List ℕ → List ℕ
+tableIdLeft ws out = handLeft (tableIdAnswer (planOf ws) .number) (idWords (tableIdAnswer (planOf ws))) out
+
+-- D, K and F
+abbrev pub statsWords : Plan → List ℕ
+statsWords q = q .degree ∷ q .constants ∷ q .factor ∷ []
+
+-- 19, then 10
+abbrev pub statsCall : List ℕ → List ℕ → ℕ
+statsCall ws out = handNumber (planFault (planOf ws)) (statsWords (planOf ws)) out
+
+abbrev pub statsLeft : List ℕ → List ℕ → List ℕ
+statsLeft ws out = handLeft (planFault (planOf ws)) (statsWords (planOf ws)) out
 
 -- 10 for the result slice, then "1 N or C outside its range, or a cell outside the C columns; 9"
 unfoldable pub labelCall : ℕ → ℕ → ℕ → List ℕ → ℕ

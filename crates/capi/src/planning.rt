@@ -1,7 +1,7 @@
 // Planning, and what is asked of a plan: a gate's path, the table-id column, D, K and F. Labels by
 // themselves.
 ghost use mathlib.Core.Path.{_≡_};
-ghost use Rattle.capi.specs.Planning.{planCall, planLeft, withRoom, pathCall, pathLeft, tableIdCall, tableIdLeft, statsCall, statsLeft, labelCall, labelLeft};
+ghost use Rattle.capi.specs.Planning.{planCall, planLeft, withRoom, pathCall, pathLeft, handNumber, handLeft, tableIdCall, tableIdLeft, statsCall, statsLeft, labelCall, labelLeft};
 use crate::encoding::PLAN_WORDS;
 use crate::encoding::decode_plan;
 use crate::encoding::encode_plan;
@@ -22,6 +22,21 @@ fn with_room(room: usize, long: usize, number: u64) -> u64
         return number;
     }
     10
+}
+
+// Words go to the front of a result slice unless the call is refused. Its number, then 10.
+fn hand_unless(number: u64, words: &[u64], out: &mut [u64]) -> u64
+    ensures { λ r. ⌜ r ≡ handNumber number (now (words .entry)) (now (out .entry)) ⌝ }
+    ensures { λ _. ⌜ now (out .exit) ≡ handLeft number (now (words .entry)) (now (out .entry)) ⌝ }
+{
+    if number != 0 {
+        return number;
+    }
+    if out.len() < words.len() {
+        return 10;
+    }
+    hand(words, out);
+    0
 }
 
 // The plan for parameters (N, C, A, S, V, mode, W, share flag) and gates (kind, degree, constants
@@ -64,11 +79,8 @@ pub extern "C" fn setup_table_id(plan: &[u64], out: &mut [u64]) -> u64
     ensures { λ _. ⌜ now (out .exit) ≡ tableIdLeft (now (plan .entry)) (now (out .entry)) ⌝ }
 {
     let id = decode_plan(plan).table_id();
-    if id.number == 0 {
-        let words = [id.count, id.index];
-        hand(&words, out);
-    }
-    with_room(2, out.len(), id.number)
+    let words = [id.count, id.index];
+    hand_unless(id.number, &words, out)
 }
 
 // D, K and F. 19, then 10 for the result; a refusal writes nothing.
@@ -78,12 +90,8 @@ pub extern "C" fn setup_stats(plan: &[u64], out: &mut [u64]) -> u64
     ensures { λ _. ⌜ now (out .exit) ≡ statsLeft (now (plan .entry)) (now (out .entry)) ⌝ }
 {
     let decoded = decode_plan(plan);
-    let fault = decoded.fault();
-    if fault == 0 {
-        let words = [decoded.degree, decoded.constants, decoded.factor];
-        hand(&words, out);
-    }
-    with_room(3, out.len(), fault)
+    let words = [decoded.degree, decoded.constants, decoded.factor];
+    hand_unless(decoded.fault(), &words, out)
 }
 
 // The label of the cell whose number is cN + r. 10 for the result, then 1 and 9, which leave 0.

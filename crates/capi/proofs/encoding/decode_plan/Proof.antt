@@ -1,3 +1,7 @@
+use mathlib.Core.Path.{_≡_, refl, sym, ap, _∙_}
+use native.Mathlib.Omega.{arith}
+use Prim.Native.Nat.{ℕ, _+_, _≤_}
+use Rattle.capi.specs.EncodingLaws.{plan-made, plan-none, plan-other}
 use borrow.Author.Needs.{needs}
 use Rattle.capi.proofs.encoding.decode_plan.Statement.{statement}
 use Rattle.capi.proofs.encoding.decode_plan.Tie as tie
@@ -15,7 +19,7 @@ zero-requires c κs = search needs
 
 -- src/encoding.rt:103:9
 returns : tie.Need-returns
-returns c = ?
+returns c = c .zero .ensures ∙ plan-other (c .before .before .before .args .words .now) (c .before .if1 .taken)
 
 -- src/encoding.rt:105:20
 shared-slice-read-lookup-fits : tie.Need-shared-slice-read-lookup-fits
@@ -127,7 +131,10 @@ shared-slice-read-t43 c = search needs
 
 -- src/encoding.rt:111:9
 returns-2 : tie.Need-returns-2
-returns-2 c = ?
+returns-2 c =
+    let ws = c .before .before .before .before .before .before .before .before .before .before .before .before .before .before .before .before .before .before .before .before .before .before .args .words .now in
+    plan-made ws (c .before .before .before .before .before .before .before .before .before .before .before .before .before .before .before .before .before .before .before .before .if1 .left) (sym (c .before .before .before .before .before .before .before .before .before .before .before .before .before .before .before .before .lookup-fits .ensures) ∙ c .before .before .before .before .before .before .before .before .before .before .before .before .before .before .before .if2 .taken)
+    _ _ _ _ (c .before .before .before .before .before .before .before .before .before .before .before .before .before .before .parameters-at .ensures) (c .before .before .before .before .before .lookup .ensures) (c .before .before .before .before .before .before .before .before .before .before .before .copy-words .ensures) (c .before .before .before .before .before .before .before .copy-words2 .ensures)
 
 -- src/encoding.rt:127:5
 zero-requires-2 : tie.Need-zero-requires-2
@@ -135,7 +142,8 @@ zero-requires-2 c κs = search needs
 
 -- src/encoding.rt:99:1
 returns-3 : tie.Need-returns-3
-returns-3 c = ?
+returns-3 c =
+    c .zero2 .ensures ∙ plan-none (c .before .before .before .before .before .before .before .before .args .words .now) (c .before .before .before .before .before .before .if1 .left) (sym (c .before .before .lookup-fits .ensures) ∙ c .before .if2 .left)
 
 pub decode-plan-spec : {M : Type 1} → statement M
 decode-plan-spec =

@@ -1,3 +1,11 @@
+use mathlib.Core.Path.{_≡_, refl, sym, ap, _∙_}
+use native.Mathlib.Omega.{arith}
+use Prim.Native.Nat.{ℕ, _+_, _≤_}
+use lib.ListN.{length}
+use lib.Seq.{length-take-le}
+use Rattle.tree.specs.declared.plan.Plan.{Plan}
+use Rattle.columns.specs.Intake.{startOf}
+use Rattle.capi.specs.EncodingLaws.{state-made, state-other}
 use borrow.Author.Needs.{needs}
 use Rattle.capi.proofs.encoding.decode_state.Statement.{statement}
 use Rattle.capi.proofs.encoding.decode_state.Tie as tie
@@ -13,7 +21,7 @@ zero-requires c κs = search needs
 
 -- src/encoding.rt:164:9
 returns : tie.Need-returns
-returns c = ?
+returns c = ap (λ (q : Plan). startOf q 0) (c .zero .ensures) ∙ state-other (c .before .before .before .args .words .now) (c .before .if1 .taken)
 
 -- src/encoding.rt:175:16
 sub-copy-words : tie.Need-sub-copy-words
@@ -37,7 +45,7 @@ copy-words-requires c κs = search needs
 
 -- src/encoding.rt:177:27
 slice-aggregate-decode-plan : tie.Need-slice-aggregate-decode-plan
-slice-aggregate-decode-plan c = ?
+slice-aggregate-decode-plan c = sym (length-take-le 1162 (c .before .before .before .before .before .before .before .args .words .now) (omega (arith, c .before .before .before .before .before .if1 .left)))
 
 -- src/encoding.rt:177:15
 decode-plan-requires : tie.Need-decode-plan-requires
@@ -101,7 +109,9 @@ shared-slice-read-t35 c = search needs
 
 -- src/encoding.rt:159:1
 returns-2 : tie.Need-returns-2
-returns-2 c = ?
+returns-2 c =
+    let ws = c .before .before .before .before .before .before .before .before .before .before .before .before .before .before .args .words .now in
+    state-made ws (c .before .before .before .before .before .before .before .before .before .before .before .before .if1 .left) _ _ (c .before .before .before .before .before .before .decode-plan .ensures) (c .before .before .before .before .before .before .before .before .before .copy-words .ensures)
 
 pub decode-state-spec : {M : Type 1} → statement M
 decode-state-spec =

@@ -1,3 +1,10 @@
+use mathlib.Core.Path.{_≡_, refl, sym, ap, _∙_}
+use native.Mathlib.Omega.{arith}
+use Prim.Native.Nat.{ℕ, _+_, _≤_}
+use Rattle.pieces.specs.Setting.{cols}
+use Rattle.columns.specs.Intake.{cellsAnswer, cellsLeft}
+use Rattle.columns.specs.declared.intake.Intake.{Intake}
+use Rattle.capi.specs.IntakeLaws.{passed}
 use borrow.Author.Needs.{needs}
 use Rattle.capi.proofs.intake.setup_cells.Statement.{statement}
 use Rattle.capi.proofs.intake.setup_cells.Tie as tie
@@ -33,7 +40,14 @@ same-length-3 c = search needs
 
 -- src/intake.rt:78:1
 returns : tie.Need-returns
-returns c = ?
+returns c =
+    let a = c .before .before .before .before .before .before .before .before .before .before .before .before .before .before .before .before .before .args in
+    let b = cols (a .copies .now) (a .scratch .now) in
+    let e = c .before .before .before .before .before .before .before .before .before .before .before .decode-state .ensures in
+    let t = c .before .before .before .before .before .before .before .before .cells .ensures in
+    let g = c .before .before .give-back .ensures in
+    let k = passed (λ (s : Intake). cellsAnswer s (a .piece .now) b) (a .state .now) _ _ _ _ e (t .0) (g .0) (g .1) in
+    (k .0, (k .1, t .1 ∙ ap (λ (s : Intake). cellsLeft s (a .piece .now) b) e))
 
 pub setup-cells-spec : {M : Type 1} → statement M
 setup-cells-spec =

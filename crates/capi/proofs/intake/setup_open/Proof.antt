@@ -1,3 +1,10 @@
+use mathlib.Core.Path.{_≡_, refl, sym, ap, _∙_}
+use native.Mathlib.Omega.{arith}
+use Prim.Native.Nat.{ℕ, _+_, _≤_}
+use lib.ListN.{length}
+use Rattle.columns.specs.Intake.{storeOf}
+use Rattle.pieces.specs.Setting.{Store}
+use Rattle.capi.specs.IntakeLaws.{open-given, open-made-up, open-short}
 use borrow.Author.Needs.{needs}
 use Rattle.capi.proofs.intake.setup_open.Statement.{statement}
 use Rattle.capi.proofs.intake.setup_open.Tie as tie
@@ -17,12 +24,27 @@ fault-requires : tie.Need-fault-requires
 fault-requires c κs = search needs
 
 -- src/intake.rt:45:13
+-- the arrays of a plan by value have their lengths
+gates-long : (c : tie.After-decode-plan) → length (c .decode-plan .result .gates) ≡ 384
+gates-long c = search needs
+
+nodes-long : (c : tie.After-decode-plan) → length (c .decode-plan .result .nodes) ≡ 765
+nodes-long c = search needs
+
 returns : tie.Need-returns
-returns c = ?
+returns c =
+    let a = c .before .before .before .before .before .before .before .before .before .before .args in
+    let d = c .before .before .before in
+    open-short (a .plan .now) (a .state .now) (storeOf (a .constants .now) (a .copies .now) (a .scratch .now) (a .tables .now))
+    (d .decode-plan .result) (d .decode-plan .ensures) (gates-long d) (nodes-long d) (sym (c .before .fault .ensures) ∙ c .if2 .taken) (c .before .before .if1 .taken)
 
 -- src/intake.rt:47:9
 returns-2 : tie.Need-returns-2
-returns-2 c = ?
+returns-2 c =
+    let a = c .before .before .before .before .before .before .before .before .before .before .args in
+    let d = c .before .before .before in
+    open-made-up (a .plan .now) (a .state .now) (storeOf (a .constants .now) (a .copies .now) (a .scratch .now) (a .tables .now))
+    (d .decode-plan .result) (d .decode-plan .ensures) (gates-long d) (nodes-long d) (λ z. c .if2 .left (c .before .fault .ensures ∙ z)) (c .before .before .if1 .taken)
 
 -- src/intake.rt:49:9
 open-requires : tie.Need-open-requires
@@ -54,7 +76,11 @@ same-length-5 c = search needs
 
 -- src/intake.rt:29:1
 returns-3 : tie.Need-returns-3
-returns-3 c = ?
+returns-3 c =
+    let a = c .before .before .before .before .before .before .before .before .before .before .before .before .before .before .before .before .before .before .before .before .before .before .before .before .before .before .args in
+    let t = c .before .before .before .before .before .before .before .before .before .before .before .before .before .«open» .ensures in
+    open-given (a .plan .now) (a .state .now) (storeOf (a .constants .now) (a .copies .now) (a .scratch .now) (a .tables .now)) (c .before .before .before .before .before .before .before .before .before .before .before .before .before .before .before .before .before .before .if1 .left)
+    _ _ _ _ (c .before .before .before .before .before .before .before .before .before .before .before .before .before .before .before .before .before .before .before .decode-plan .ensures) (t .0) (c .before .before .encode-state .ensures) (t .1)
 
 pub setup-open-spec : {M : Type 1} → statement M
 setup-open-spec =

@@ -1,3 +1,9 @@
+use mathlib.Core.Path.{_≡_, refl, sym, ap, _∙_}
+use native.Mathlib.Omega.{arith}
+use Prim.Native.Nat.{ℕ, _+_, _≤_}
+use Rattle.columns.specs.Intake.{tablesAnswer, tablesLeft}
+use Rattle.columns.specs.declared.intake.Intake.{Intake}
+use Rattle.capi.specs.IntakeLaws.{passed}
 use borrow.Author.Needs.{needs}
 use Rattle.capi.proofs.intake.setup_tables.Statement.{statement}
 use Rattle.capi.proofs.intake.setup_tables.Tie as tie
@@ -29,7 +35,13 @@ same-length-2 c = search needs
 
 -- src/intake.rt:94:1
 returns : tie.Need-returns
-returns c = ?
+returns c =
+    let a = c .before .before .before .before .before .before .before .before .before .before .before .before .before .args in
+    let e = c .before .before .before .before .before .before .before .before .decode-state .ensures in
+    let t = c .before .before .before .before .before .before .tables .ensures in
+    let g = c .before .before .give-back .ensures in
+    let k = passed (λ (s : Intake). tablesAnswer s (a .piece .now) (a .tables .now)) (a .state .now) _ _ _ _ e (t .0) (g .0) (g .1) in
+    (k .0, (k .1, t .1 ∙ ap (λ (s : Intake). tablesLeft s (a .piece .now) (a .tables .now)) e))
 
 pub setup-tables-spec : {M : Type 1} → statement M
 setup-tables-spec =

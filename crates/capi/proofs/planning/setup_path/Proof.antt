@@ -1,3 +1,7 @@
+use mathlib.Core.Path.{_≡_, refl, sym, ap, _∙_}
+use native.Mathlib.Omega.{arith}
+use Prim.Native.Nat.{ℕ, _+_, _≤_}
+use Rattle.capi.specs.PlanningLaws.{path-called}
 use borrow.Author.Needs.{needs}
 use Rattle.capi.proofs.planning.setup_path.Statement.{statement}
 use Rattle.capi.proofs.planning.setup_path.Tie as tie
@@ -34,7 +38,9 @@ same-length c = search needs
 
 -- src/planning.rt:48:1
 returns : tie.Need-returns
-returns c = ?
+returns c =
+    let a = c .before .before .before .before .before .before .before .before .before .before .args in
+    path-called (a .plan .now) (a .out .now) (a .gate) _ _ _ _ (c .before .before .before .before .before .before .before .decode-plan .ensures) (c .before .before .before .before .before .before .path .ensures) (c .before .before .before .hand .ensures) (c .with-room .ensures) (c .before .before .before .hand .kept .1 .0)
 
 pub setup-path-spec : {M : Type 1} → statement M
 setup-path-spec =

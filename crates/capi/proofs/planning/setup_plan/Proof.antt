@@ -1,3 +1,8 @@
+use lib.ListN.{length}
+use mathlib.Core.Path.{_≡_, refl, sym, ap, _∙_}
+use native.Mathlib.Omega.{arith}
+use Prim.Native.Nat.{ℕ, _+_, _≤_}
+use Rattle.capi.specs.PlanningLaws.{plan-20, plan-10, plan-given}
 use borrow.Author.Needs.{needs}
 use Rattle.capi.proofs.planning.setup_plan.Statement.{statement}
 use Rattle.capi.proofs.planning.setup_plan.Tie as tie
@@ -8,12 +13,23 @@ use Rattle.capi.proofs.encoding.parameters_at.Reads as parameters-at-re
 use Rattle.tree.proofs.planning.plan.Reads as plan-reads
 
 -- src/planning.rt:36:9
+-- the arrays of a plan by value have their lengths
+gates-long : (c : tie.After-plan) → length (c .plan .result .plan .gates) ≡ 384
+gates-long c = search needs
+
+nodes-long : (c : tie.After-plan) → length (c .plan .result .plan .nodes) ≡ 765
+nodes-long c = search needs
+
 returns : tie.Need-returns
-returns c = ?
+returns c =
+    let a = c .before .before .before .before .args in
+    plan-20 (a .parameters .now) (a .gates .now) (a .plan .now) (c .if1 .taken)
 
 -- src/planning.rt:39:9
 returns-2 : tie.Need-returns-2
-returns-2 c = ?
+returns-2 c =
+    let a = c .before .before .before .before .before .args in
+    plan-10 (a .parameters .now) (a .gates .now) (a .plan .now) (c .before .if1 .left) (c .if2 .taken)
 
 -- src/planning.rt:41:40
 parameters-at-requires : tie.Need-parameters-at-requires
@@ -33,7 +49,10 @@ same-length c = search needs
 
 -- src/planning.rt:30:1
 returns-3 : tie.Need-returns-3
-returns-3 c = ?
+returns-3 c =
+    let a = c .before .before .before .before .before .before .before .before .before .before .before .args in
+    plan-given (a .parameters .now) (a .gates .now) (a .plan .now) (c .before .before .before .before .before .before .before .if1 .left) (c .before .before .before .before .before .before .if2 .left)
+    _ _ _ (gates-long (c .before .before .before .before)) (nodes-long (c .before .before .before .before)) (c .before .before .before .before .before .parameters-at .ensures) (c .before .before .before .before .plan .ensures) (c .before .before .encode-plan .ensures)
 
 pub setup-plan-spec : {M : Type 1} → statement M
 setup-plan-spec =

@@ -4,35 +4,30 @@ use Rattle.capi.proofs.planning.setup_stats.Tie as tie
 use Rattle.capi.proofs.planning.setup_stats.Reads as reads
 use Rattle.capi.proofs.planning.setup_stats.Lts as lts
 use Rattle.capi.proofs.encoding.decode_plan.Reads as decode-plan-reads
-use Rattle.capi.proofs.encoding.hand.Reads as hand-reads
-use Rattle.capi.proofs.planning.with_room.Reads as with-room-reads
+use Rattle.capi.proofs.planning.hand_unless.Reads as hand-unless-reads
 use Rattle.tree.proofs.plan.Plan.fault.Reads as fault-reads
 
--- src/planning.rt:80:9
+-- src/planning.rt:92:9
 decode-plan-requires : tie.Need-decode-plan-requires
 decode-plan-requires c κs = search needs
 
--- src/planning.rt:81:9
+-- src/planning.rt:94:17
 fault-requires : tie.Need-fault-requires
 fault-requires c κs = search needs
 
--- src/planning.rt:84:14
-slice-aggregate-hand : tie.Need-slice-aggregate-hand
-slice-aggregate-hand c = search needs
+-- src/planning.rt:94:34
+slice-aggregate-hand-unless : tie.Need-slice-aggregate-hand-unless
+slice-aggregate-hand-unless c = search needs
 
--- src/planning.rt:84:9
-hand-requires : tie.Need-hand-requires
-hand-requires c κs = search needs
+-- src/planning.rt:94:5
+hand-unless-requires : tie.Need-hand-unless-requires
+hand-unless-requires c κs = search needs
 
--- src/planning.rt:86:5
-with-room-requires : tie.Need-with-room-requires
-with-room-requires c κs = search needs
-
--- src/planning.rt:75:1
+-- src/planning.rt:87:1
 same-length : tie.Need-same-length
-same-length c = ?
+same-length c = search needs
 
--- src/planning.rt:75:1
+-- src/planning.rt:87:1
 returns : tie.Need-returns
 returns c = ?
 
@@ -42,8 +37,7 @@ setup-stats-spec =
     (tie.spec
     decode-plan-requires
     fault-requires
-    slice-aggregate-hand
-    hand-requires
-    with-room-requires
+    slice-aggregate-hand-unless
+    hand-unless-requires
     same-length
     returns)

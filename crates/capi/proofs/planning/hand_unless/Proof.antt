@@ -1,0 +1,29 @@
+use borrow.Author.Needs.{needs}
+use Rattle.capi.proofs.planning.hand_unless.Statement.{statement}
+use Rattle.capi.proofs.planning.hand_unless.Tie as tie
+use Rattle.capi.proofs.planning.hand_unless.Reads as reads
+use Rattle.capi.proofs.planning.hand_unless.Lts as lts
+use Rattle.capi.proofs.encoding.hand.Reads as hand-reads
+
+-- src/planning.rt:33:9
+returns : tie.Need-returns
+returns c = ?
+
+-- src/planning.rt:36:9
+returns-2 : tie.Need-returns-2
+returns-2 c = ?
+
+-- src/planning.rt:38:5
+hand-requires : tie.Need-hand-requires
+hand-requires c κs = search needs
+
+-- src/planning.rt:28:1
+same-length : tie.Need-same-length
+same-length c = search needs
+
+-- src/planning.rt:28:1
+returns-3 : tie.Need-returns-3
+returns-3 c = ?
+
+pub hand-unless-spec : {M : Type 1} → statement M
+hand-unless-spec = tie.close (tie.spec returns returns-2 hand-requires same-length returns-3)
