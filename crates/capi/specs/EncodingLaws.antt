@@ -88,20 +88,20 @@ module _ (q : Plan) (g : length (q .gates) ≡ 384) (n : length (q .nodes) ≡ 7
 
   fields-back : planAt (planWords q) ≡ q
   fields-back = λ i. record {
-      trace = q .trace;
-      copy = q .copy;
-      allowed = q .allowed;
-      specialised = q .specialised;
-      variables = q .variables;
-      lookup = lookup-back q i;
-      gates = take-at (q .gates) counted 384 g i;
-      «gate_count» = getD-at (q .gates) (q .«gate_count») (q .nodes ++ tailWords q) 0 384 g i;
-      nodes = nodes-back i;
-      «node_count» = count-back i;
-      degree = degree-back i;
-      constants = constants-back i;
-      factor = factor-back i;
-    }
+    trace = q .trace;
+    copy = q .copy;
+    allowed = q .allowed;
+    specialised = q .specialised;
+    variables = q .variables;
+    lookup = lookup-back q i;
+    gates = take-at (q .gates) counted 384 g i;
+    «gate_count» = getD-at (q .gates) (q .«gate_count») (q .nodes ++ tailWords q) 0 384 g i;
+    nodes = nodes-back i;
+    «node_count» = count-back i;
+    degree = degree-back i;
+    constants = constants-back i;
+    factor = factor-back i;
+  }
 
   -- "Decoding what was encoded gives the value back": a plan
   pub plan-back : planOf (planWords q) ≡ q
@@ -127,15 +127,15 @@ module _ (s : Intake) (g : length (s .plan .gates) ≡ 384) (n : length (s .plan
 
   state-fields : intakeAt (intakeWords s) ≡ s
   state-fields = λ i. record {
-      plan = (ap planOf (take-at (planWords (s .plan)) counts 1162 long) ∙ plan-back (s .plan) g n) i;
-      rows = part-getD (planWords (s .plan)) counts 1162 0 long i;
-      «s_words» = part-getD (planWords (s .plan)) counts 1162 1 long i;
-      cells = part-getD (planWords (s .plan)) counts 1162 2 long i;
-      tables = part-getD (planWords (s .plan)) counts 1162 3 long i;
-      «table_rows» = part-getD (planWords (s .plan)) counts 1162 4 long i;
-      used = (ap (take 128) (part-drop (planWords (s .plan)) counts 1162 5 long) ∙ take-at (s .used) (s .phase ∷ []) 128 u) i;
-      phase = (part-getD (planWords (s .plan)) counts 1162 133 long ∙ getD-at (s .used) (s .phase) [] 0 128 u) i;
-    }
+    plan = (ap planOf (take-at (planWords (s .plan)) counts 1162 long) ∙ plan-back (s .plan) g n) i;
+    rows = part-getD (planWords (s .plan)) counts 1162 0 long i;
+    «s_words» = part-getD (planWords (s .plan)) counts 1162 1 long i;
+    cells = part-getD (planWords (s .plan)) counts 1162 2 long i;
+    tables = part-getD (planWords (s .plan)) counts 1162 3 long i;
+    «table_rows» = part-getD (planWords (s .plan)) counts 1162 4 long i;
+    used = (ap (take 128) (part-drop (planWords (s .plan)) counts 1162 5 long) ∙ take-at (s .used) (s .phase ∷ []) 128 u) i;
+    phase = (part-getD (planWords (s .plan)) counts 1162 133 long ∙ getD-at (s .used) (s .phase) [] 0 128 u) i;
+  }
 
   -- and a state
   pub state-back : intakeOf (intakeWords s) ≡ s

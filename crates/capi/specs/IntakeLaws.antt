@@ -64,16 +64,18 @@ module _ (ws state : List ℕ) (b : Store) (q : Plan) (e : q ≡ planOf ws) (g :
   short-state : length state < stateLength → (state ≡ openedState ws state b) × (b ≡ openedStore ws state b)
   unfolding openedState openedStore
   short-state h =
-      let k : length state < length (intakeWords (openAnswer q b .state)) = omega (arith, opened-long q b g n) in
-      (handed-short (intakeWords (openAnswer q b .state)) state k ∙ ap (λ (x : Plan). handed (intakeWords (openAnswer x b .state)) state) e,
-        sym (pick-no (leb stateLength (length state)) (openLeft (planOf ws) b) b (lt-leb stateLength (length state) h)))
+      let k : length state < length (intakeWords (openAnswer q b .state)) = omega (arith, opened-long q b g n) in (
+        handed-short (intakeWords (openAnswer q b .state)) state k ∙ ap (λ (x : Plan). handed (intakeWords (openAnswer x b .state)) state) e,
+        sym (pick-no (leb stateLength (length state)) (openLeft (planOf ws) b) b (lt-leb stateLength (length state) h)),
+      )
 
   pub open-short : planFault q ≡ 0 → length state < stateLength → (10 ≡ openCall ws state b) × ((state ≡ openedState ws state b) × (b ≡ openedStore ws state b))
   unfolding openCall
   open-short f h =
-      let p : planFault (planOf ws) ≡ 0 = ap planFault (sym e) ∙ f in
-      (sym (pick-yes (eqb (planFault (planOf ws)) 0) _ 19 (eq-eqb (planFault (planOf ws)) 0 p) ∙ pick-no (leb stateLength (length state)) (openAnswer (planOf ws) b .number) 10 (lt-leb stateLength (length state) h)),
-        short-state h)
+      let p : planFault (planOf ws) ≡ 0 = ap planFault (sym e) ∙ f in (
+        sym (pick-yes (eqb (planFault (planOf ws)) 0) _ 19 (eq-eqb (planFault (planOf ws)) 0 p) ∙ pick-no (leb stateLength (length state)) (openAnswer (planOf ws) b .number) 10 (lt-leb stateLength (length state) h)),
+        short-state h,
+      )
 
   pub open-made-up : planFault q ≢ 0 → length state < stateLength → (19 ≡ openCall ws state b) × ((state ≡ openedState ws state b) × (b ≡ openedStore ws state b))
   unfolding openCall
@@ -99,9 +101,12 @@ pub open-given : (ws state : List ℕ) (b : Store) → stateLength ≤ length st
 unfolding openCall openedState openedStore
 open-given ws state b h q t w a eq et ew ea =
     let e : t ≡ openAnswer (planOf ws) b = et ∙ ap (λ (x : Plan). openAnswer x b) eq in
-    let l = le-leb stateLength (length state) h in
-    (ap (λ (x : Taken). x .number) e
-      ∙ own-number (planOf ws) b
-      ∙ ap (λ (k : ℕ). pick (eqb (planFault (planOf ws)) 0) k 19) (sym (pick-yes (leb stateLength (length state)) (openAnswer (planOf ws) b .number) 10 l)),
-      (ew ∙ ap (λ (x : Taken). handed (intakeWords (x .state)) state) e,
-        ea ∙ ap (λ (x : Plan). openLeft x b) eq ∙ sym (pick-yes (leb stateLength (length state)) (openLeft (planOf ws) b) b l)))
+    let l = le-leb stateLength (length state) h in (
+      ap (λ (x : Taken). x .number) e
+          ∙ own-number (planOf ws) b
+          ∙ ap (λ (k : ℕ). pick (eqb (planFault (planOf ws)) 0) k 19) (sym (pick-yes (leb stateLength (length state)) (openAnswer (planOf ws) b .number) 10 l)),
+      (
+        ew ∙ ap (λ (x : Taken). handed (intakeWords (x .state)) state) e,
+        ea ∙ ap (λ (x : Plan). openLeft x b) eq ∙ sym (pick-yes (leb stateLength (length state)) (openLeft (planOf ws) b) b l),
+      ),
+    )

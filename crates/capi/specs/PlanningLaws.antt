@@ -38,9 +38,10 @@ module _ (ps gs out : List ℕ) where
   unfolding planCall planLeft
   plan-10 p h =
       let e = eq-eqb (length ps) parameterCount p in
-      let l = lt-leb planLength (length out) h in
-      (sym (pick-yes (eqb (length ps) parameterCount) _ 20 e ∙ pick-no (leb planLength (length out)) (planNumber (parametersAt ps) gs) 10 l),
-        sym (pick-yes (eqb (length ps) parameterCount) _ out e ∙ pick-no (leb planLength (length out)) plan-there out l))
+      let l = lt-leb planLength (length out) h in (
+        sym (pick-yes (eqb (length ps) parameterCount) _ 20 e ∙ pick-no (leb planLength (length out)) (planNumber (parametersAt ps) gs) 10 l),
+        sym (pick-yes (eqb (length ps) parameterCount) _ out e ∙ pick-no (leb planLength (length out)) plan-there out l),
+      )
 
   pub plan-given : length ps ≡ parameterCount → planLength ≤ length out
       → (p : Parameters) (r : Planned) (o : List ℕ)
@@ -55,12 +56,13 @@ module _ (ps gs out : List ℕ) where
       let e = eq-eqb (length ps) parameterCount k in
       let l = le-leb planLength (length out) h in
       let a : r ≡ planAnswer (parametersAt ps) gs = er ∙ ap (λ (x : Parameters). planAnswer x gs) ep in
-      let w : o ≡ planWords (r .plan) ++ drop planLength out = eo ∙ sym (handed-long (planWords (r .plan)) out planLength (plan-length (r .plan) g n) h) in
-      (ap (λ (x : Planned). x .number) a
-        ∙ sym (pick-yes (eqb (length ps) parameterCount) _ 20 e ∙ pick-yes (leb planLength (length out)) (planNumber (parametersAt ps) gs) 10 l),
+      let w : o ≡ planWords (r .plan) ++ drop planLength out = eo ∙ sym (handed-long (planWords (r .plan)) out planLength (plan-length (r .plan) g n) h) in (
+        ap (λ (x : Planned). x .number) a
+            ∙ sym (pick-yes (eqb (length ps) parameterCount) _ 20 e ∙ pick-yes (leb planLength (length out)) (planNumber (parametersAt ps) gs) 10 l),
         w
-        ∙ ap (λ (x : Planned). planWords (x .plan) ++ drop planLength out) a
-        ∙ sym (pick-yes (eqb (length ps) parameterCount) _ out e ∙ pick-yes (leb planLength (length out)) plan-there out l))
+            ∙ ap (λ (x : Planned). planWords (x .plan) ++ drop planLength out) a
+            ∙ sym (pick-yes (eqb (length ps) parameterCount) _ out e ∙ pick-yes (leb planLength (length out)) plan-there out l),
+      )
 
 -- ---- a path
 pub path-called : (ws out : List ℕ) (g : ℕ) (q : Plan) (p : Path) (r : ℕ) (o : List ℕ)
@@ -72,9 +74,10 @@ pub path-called : (ws out : List ℕ) (g : ℕ) (q : Plan) (p : Path) (r : ℕ) 
     → (r ≡ pathCall ws g out) × (o ≡ pathLeft ws g out)
 unfolding pathCall pathLeft
 path-called ws out g q p r o eq ep eo er el =
-    let e : p ≡ pathAnswer (planOf ws) g = ep ∙ ap (λ (x : Plan). pathAnswer x g) eq in
-    (er ∙ ap (λ (k : ℕ). withRoom 2 k (p .number)) el ∙ ap (λ (x : Path). withRoom 2 (length out) (x .number)) e,
-      eo ∙ ap (λ (x : Path). handed (x .bits ∷ x .length ∷ []) out) e)
+    let e : p ≡ pathAnswer (planOf ws) g = ep ∙ ap (λ (x : Plan). pathAnswer x g) eq in (
+      er ∙ ap (λ (k : ℕ). withRoom 2 k (p .number)) el ∙ ap (λ (x : Path). withRoom 2 (length out) (x .number)) e,
+      eo ∙ ap (λ (x : Path). handed (x .bits ∷ x .length ∷ []) out) e,
+    )
 
 -- ---- words handed out unless the call is refused
 module _ (n : ℕ) (new out : List ℕ) where
@@ -84,15 +87,17 @@ module _ (n : ℕ) (new out : List ℕ) where
 
   pub hand-short : n ≡ 0 → length out < length new → (10 ≡ handNumber n new out) × (out ≡ handLeft n new out)
   unfolding handNumber handLeft
-  hand-short e h =
-      (sym (first-none n _ e ∙ pick-no (leb (length new) (length out)) 0 10 (lt-leb (length new) (length out) h)),
-        handed-short new out h ∙ sym (pick-yes (eqb n 0) (handed new out) out (eq-eqb n 0 e)))
+  hand-short e h = (
+    sym (first-none n _ e ∙ pick-no (leb (length new) (length out)) 0 10 (lt-leb (length new) (length out) h)),
+    handed-short new out h ∙ sym (pick-yes (eqb n 0) (handed new out) out (eq-eqb n 0 e)),
+  )
 
   pub hand-given : n ≡ 0 → length new ≤ length out → (0 ≡ handNumber n new out) × (handed new out ≡ handLeft n new out)
   unfolding handNumber handLeft
-  hand-given e h =
-      (sym (first-none n _ e ∙ pick-yes (leb (length new) (length out)) 0 10 (le-leb (length new) (length out) h)),
-        sym (pick-yes (eqb n 0) (handed new out) out (eq-eqb n 0 e)))
+  hand-given e h = (
+    sym (first-none n _ e ∙ pick-yes (leb (length new) (length out)) 0 10 (le-leb (length new) (length out) h)),
+    sym (pick-yes (eqb n 0) (handed new out) out (eq-eqb n 0 e)),
+  )
 
 -- ---- labels
 module _ (n c cell : ℕ) (out : List ℕ) where

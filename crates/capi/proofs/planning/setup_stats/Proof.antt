@@ -1,3 +1,8 @@
+use mathlib.Core.Path.{_≡_, refl, sym, ap, _∙_}
+use Prim.Native.Nat.{ℕ}
+use Rattle.tree.specs.Plan.{planFault}
+use Rattle.tree.specs.declared.plan.Plan.{Plan}
+use Rattle.capi.specs.Planning.{handLeft, handNumber, statsWords}
 use borrow.Author.Needs.{needs}
 use Rattle.capi.proofs.planning.setup_stats.Statement.{statement}
 use Rattle.capi.proofs.planning.setup_stats.Tie as tie
@@ -29,7 +34,14 @@ same-length c = search needs
 
 -- src/planning.rt:87:1
 returns : tie.Need-returns
-returns c = ?
+returns c =
+    let out = c .before .before .before .before .before .before .before .before .before .args .out .now in
+    let d = c .before .before .before .before .before .before .decode-plan in
+    let f = c .before .before .before .before .before .fault .ensures in
+    let h = c .before .before .hand-unless .ensures in (
+      h .0 ∙ ap (λ (n : ℕ). handNumber n (statsWords (d .result)) out) f ∙ ap (λ (q : Plan). handNumber (planFault q) (statsWords q) out) (d .ensures),
+      h .1 ∙ ap (λ (n : ℕ). handLeft n (statsWords (d .result)) out) f ∙ ap (λ (q : Plan). handLeft (planFault q) (statsWords q) out) (d .ensures),
+    )
 
 pub setup-stats-spec : {M : Type 1} → statement M
 setup-stats-spec =

@@ -1,3 +1,9 @@
+use mathlib.Core.Path.{_≡_, refl, sym, ap, _∙_}
+use Prim.Native.Nat.{ℕ}
+use Rattle.tree.specs.Plan.{tableIdAnswer}
+use Rattle.tree.specs.declared.plan.TableId.{TableId}
+use Rattle.capi.specs.Encoding.{planOf}
+use Rattle.capi.specs.Planning.{handLeft, handNumber, idWords}
 use borrow.Author.Needs.{needs}
 use Rattle.capi.proofs.planning.setup_table_id.Statement.{statement}
 use Rattle.capi.proofs.planning.setup_table_id.Tie as tie
@@ -29,7 +35,13 @@ same-length c = search needs
 
 -- src/planning.rt:76:1
 returns : tie.Need-returns
-returns c = ?
+returns c =
+    let a = c .before .before .before .before .before .before .before .before .before .args in
+    let e : c .before .before .before .before .before .table-id .result ≡ tableIdAnswer (planOf (a .plan .now)) = c .before .before .before .before .before .table-id .ensures ∙ ap tableIdAnswer (c .before .before .before .before .before .before .decode-plan .ensures) in
+    let h = c .before .before .hand-unless .ensures in (
+      h .0 ∙ ap (λ (t : TableId). handNumber (t .number) (idWords t) (a .out .now)) e,
+      h .1 ∙ ap (λ (t : TableId). handLeft (t .number) (idWords t) (a .out .now)) e,
+    )
 
 pub setup-table-id-spec : {M : Type 1} → statement M
 setup-table-id-spec =

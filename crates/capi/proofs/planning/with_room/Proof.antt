@@ -16,17 +16,21 @@ returns c =
 returns-2 : tie.Need-returns-2
 unfolding withRoom
 returns-2 c =
-    simp (le-leb _ _ (c .if2 .taken),
-    le-ltb _ _ (c .if2 .taken),
-    ne-eqb _ _ (c .before .if1 .left))
+    simp (
+      le-leb _ _ (c .if2 .taken),
+      le-ltb _ _ (c .if2 .taken),
+      ne-eqb _ _ (c .before .if1 .left),
+    )
 
 -- src/planning.rt:15:1
 returns-3 : tie.Need-returns-3
 unfolding withRoom
 returns-3 c =
-    simp (lt-ltb _ _ (c .if2 .left),
-    lt-leb _ _ (c .if2 .left),
-    ne-eqb _ _ (c .before .if1 .left))
+    simp (
+      lt-ltb _ _ (c .if2 .left),
+      lt-leb _ _ (c .if2 .left),
+      ne-eqb _ _ (c .before .if1 .left),
+    )
 
 pub with-room-spec : {M : Type 1} → statement M
 with-room-spec = tie.close (tie.spec returns returns-2 returns-3)
