@@ -1,16 +1,17 @@
 -- Text put piece by piece is text put whole, and a word's digits are the fewest that hold it.
 --
--- Main statements: `put-append`, `put-turn`, `put-full`, `put-all` (where the buffer is long enough, it begins with the text), `fields-turn`, `fewest-decimal`.
-use mathlib.Core.Path.{_≡_, refl, sym, ap, _∙_}
+-- Main statements: `put-append`, `put-turn`, `put-full`, `put-all` (where the buffer is long enough, it begins with the text), `fields-turn`, `put-counts`, `fewest-decimal`.
+use mathlib.Core.Path.{_≡_, refl, sym, ap, _∙_, subst}
 use mathlib.Core.List.{List, [], _∷_, _++_}
 use Prim.Native.Nat.{ℕ, zero, suc, _+_, _-_, _*_, _/_, _%_, _^_, _≤_, _<_}
 use native.Mathlib.Decide.{ℕ-discrete, decLt}
 use native.Mathlib.Nat.{add-zero, pow-suc, div-lt-iff-lt-mul, le-div-iff-mul-le, pow-le-pow-right}
 use native.Mathlib.Omega.{arith}
 use lib.ListN.{length, getD, set, drop, length-set, drop-of-length-le}
-use lib.Seq.{drop-cons, sets, sets-eq}
+use lib.Seq.{drop-cons, sets, sets-eq, length-take-le}
 use lib.Dec.{ltb}
 use borrow.Author.Tests.{lt-ltb, le-ltb}
+use Rattle.io.specs.Counts.{Counts}
 use Rattle.io.specs.Digits.{digits, Fewest}
 use Rattle.base.specs.Pick.{pick, pick-yes}
 use Rattle.bytes.specs.Text.{Sink, sink, putByte, put, places, decimal, field, fields}
@@ -45,6 +46,25 @@ pub put-full : (out : List ℕ) (at : ℕ) (text : List ℕ) → length out ≤ 
 unfolding put
 put-full out at [] h = refl
 put-full out at (b ∷ bs) h = rw (le-ltb at (length out) h) (put-full out at bs h)
+
+-- the place stays within the buffer
+byte-within : (s : Sink) (b : ℕ) → s .at ≤ length (s .bytes) → putByte s b .at ≤ length (putByte s b .bytes)
+byte-within s b h = go (decLt (s .at) (length (s .bytes)))
+  where
+    go : Dec (s .at < length (s .bytes)) → putByte s b .at ≤ length (putByte s b .bytes)
+    go (yes l) = rw (lt-ltb (s .at) (length (s .bytes)) l, length-set) l
+    go (no n) = rw (le-ltb (s .at) (length (s .bytes)) (omega arith)) h
+
+pub put-within : (s : Sink) (text : List ℕ) → s .at ≤ length (s .bytes) → put s text .at ≤ length (put s text .bytes)
+unfolding put
+put-within s [] h = h
+put-within s (b ∷ bs) h = put-within (putByte s b) bs (byte-within s b h)
+
+-- so from its start on it counts bytes at the buffer's front, in `io`'s words
+pub put-counts : (out new text : List ℕ) (r : ℕ) → sink new r ≡ put (sink out 0) text → Counts r new
+put-counts out new text r e =
+    let h : r ≤ length new = subst (λ (t : Sink). t .at ≤ length (t .bytes)) (sym e) (put-within (sink out 0) text (omega arith)) in
+    (h, sym (length-take-le r new h))
 
 -- a buffer that has the room holds the whole text
 put-sets : (out : List ℕ) (at : ℕ) (text : List ℕ) → at + length text ≤ length out → put (sink out at) text ≡ sink (sets out at text) (at + length text)

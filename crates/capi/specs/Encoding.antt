@@ -7,10 +7,10 @@ use lib.ListN.{drop, getD, length, take}
 use mathlib.Core.Bool.{Bool, true}
 use mathlib.Core.List.{List, [], _++_, _∷_}
 use Rattle.base.specs.Pick.{both, pick}
-use Rattle.tree.specs.Lookup.{flagOf, modeOf, shareOf, widthOf}
-use Rattle.tree.specs.Parameters.{lookupOf}
+use Rattle.parameters.specs.Lookup.{flagOf, modeOf, shareOf, widthOf}
+use Rattle.parameters.specs.Parameters.{lookupOf}
 use Rattle.tree.specs.Plan.{zeroPlan}
-use Rattle.tree.specs.declared.parameters.Parameters.{Parameters}
+use Rattle.parameters.specs.declared.parameters.Parameters.{Parameters}
 use Rattle.tree.specs.declared.plan.Plan.{Plan}
 use Rattle.columns.specs.Intake.{startOf}
 use Rattle.columns.specs.declared.intake.Intake.{Intake}

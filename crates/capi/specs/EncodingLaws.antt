@@ -14,12 +14,12 @@ use native.Mathlib.Nat.{zero-add}
 use native.Mathlib.Numerals.{add-one}
 use native.Mathlib.Omega.{arith}
 use Rattle.base.specs.Pick.{pick, pick-no, pick-yes}
-use Rattle.tree.specs.Lookup.{flagOf, modeOf, shareOf, widthOf}
-use Rattle.tree.specs.Parameters.{lookupOf}
+use Rattle.parameters.specs.Lookup.{flagOf, modeOf, shareOf, widthOf}
+use Rattle.parameters.specs.Parameters.{lookupOf}
 use Rattle.tree.specs.Plan.{parametersOf, zeroPlan}
-use Rattle.tree.specs.declared.lookup.LookupParameters.{LookupParameters}
-use Rattle.tree.specs.declared.lookup.LookupParameters.the-variants.{NoLookup, TableIdAsConstant, TableIdAsVariable, UseSpecializedColumnsWithTableIdAsConstant, UseSpecializedColumnsWithTableIdAsVariable}
-use Rattle.tree.specs.declared.parameters.Parameters.{Parameters}
+use Rattle.parameters.specs.declared.lookup.LookupParameters.{LookupParameters}
+use Rattle.parameters.specs.declared.lookup.LookupParameters.the-variants.{NoLookup, TableIdAsConstant, TableIdAsVariable, UseSpecializedColumnsWithTableIdAsConstant, UseSpecializedColumnsWithTableIdAsVariable}
+use Rattle.parameters.specs.declared.parameters.Parameters.{Parameters}
 use Rattle.tree.specs.declared.plan.Plan.{Plan}
 use Rattle.columns.specs.declared.intake.Intake.{Intake}
 use Rattle.capi.specs.Encoding.{countWords, handed, headWords, intakeAt, intakeOf, intakeWords, lookupFits, parametersAt, planAt, planLength, planOf, planWords, stateLength, tailWords, zeroIntake}

@@ -14,7 +14,7 @@ use Rattle.base.specs.Firsts.{first-found, first-none}
 use Rattle.base.specs.Pick.{pick, pick-no, pick-yes}
 use Rattle.labels.specs.Labels.{labelAnswer, labelNumber}
 use Rattle.tree.specs.Plan.{pathAnswer, planAnswer, planNumber, planned}
-use Rattle.tree.specs.declared.parameters.Parameters.{Parameters}
+use Rattle.parameters.specs.declared.parameters.Parameters.{Parameters}
 use Rattle.tree.specs.declared.plan.Path.{Path}
 use Rattle.tree.specs.declared.plan.Plan.{Plan}
 use Rattle.tree.specs.declared.planning.Planned.{Planned}

@@ -3,11 +3,11 @@ ghost use mathlib.Core.Path.{_≡_};
 ghost use Prim.Native.Nat.{ℕ, _+_, _≤_};
 ghost use lib.ListN.{length};
 ghost use lib.Seq.{paste};
-ghost use Rattle.tree.specs.Lookup.{flagOf};
+ghost use Rattle.parameters.specs.Lookup.{flagOf};
 ghost use Rattle.capi.specs.Encoding.{handed, intakeOf, intakeWords, lookupFits, parametersAt, planOf, planWords, zeroIntake};
 use columns::intake::Intake;
 use columns::intake::NEVER;
-use tree::parameters::Parameters;
+use parameters::parameters::Parameters;
 use tree::plan::Plan;
 
 // Where the parts of a plan's words end: parameters and lookup mode, gates, their count, nodes, the rest.

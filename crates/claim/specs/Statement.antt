@@ -13,7 +13,7 @@ use lib.Dec.{eqb}
 use Rattle.base.specs.Pick.{pick}
 use Rattle.field.specs.Field.{p, fmul, fsub}
 use Rattle.tree.specs.Plan.{planNumber, planned, planAnswer}
-use Rattle.tree.specs.declared.parameters.Parameters.{Parameters}
+use Rattle.parameters.specs.declared.parameters.Parameters.{Parameters}
 use Rattle.tree.specs.declared.plan.Plan.{Plan}
 use Rattle.pieces.specs.Setting.{Setting, State, Store, Held, constantRoom, copyRoom, tableRoom, specialRoom}
 use Rattle.pieces.specs.Opening.{openNumber, openState, fresh}

@@ -14,7 +14,7 @@ use borrow.Author.Tests.{eq-eqb, ne-eqb}
 use Rattle.base.specs.Pick.{pick}
 use Rattle.tree.specs.Plan.{planNumber, planned}
 use Rattle.tree.specs.PlanLaws.{planned-fault, placing}
-use Rattle.tree.specs.declared.parameters.Parameters.{Parameters}
+use Rattle.parameters.specs.declared.parameters.Parameters.{Parameters}
 use Rattle.tree.specs.declared.plan.Plan.{Plan}
 use Rattle.pieces.specs.Setting.{Setting, State, Store, Held}
 use Rattle.pieces.specs.Opening.{roomToOpen, openNumber, openStore, openState, fresh}

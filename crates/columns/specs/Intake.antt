@@ -13,7 +13,7 @@ use Rattle.base.specs.Tables.{table}
 use Rattle.labels.specs.Labels.{searchNumber, representativesOf, labelOf}
 use Rattle.selector.specs.Gates.{constantsOf}
 use Rattle.selector.specs.MadeUp.{wanted}
-use Rattle.tree.specs.Lookup.{modeOf, widthOf}
+use Rattle.parameters.specs.Lookup.{modeOf, widthOf}
 use Rattle.tree.specs.Plan.{zeroPlan, gatesGiven, planExtra, planFault, planPath}
 use Rattle.tree.specs.declared.plan.Plan.{Plan}
 use Rattle.pieces.specs.Setting.{Setting, State, Store, Cols, cols, constantRoom, copyRoom, scratchRoom, tableRoom}

@@ -6,3 +6,6 @@ pub mod TreeLaws
 pub mod PlanLaws
 pub mod Intake
 pub mod IntakeLaws
+pub mod Sections
+pub mod SectionsLaws
+pub mod SectionsWorked

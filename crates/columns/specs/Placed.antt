@@ -1,6 +1,6 @@
 -- What the rows of a call need of the gates: path and number of constants of each, as lists by the gate's place.
 --
--- Main definitions: `Spells`, `Fits`, `GatesOf`.
+-- Main definitions: `Spells`, `Fits`, `Faultless`, `GatesOf`.
 use mathlib.Core.Path.{_≡_}
 use mathlib.Core.List.{List}
 use Prim.Native.Nat.{ℕ, _+_, _≤_, _<_}
@@ -8,6 +8,8 @@ use lib.ListN.{getD}
 use Rattle.selector.specs.Gates.{constantsOf}
 use Rattle.tree.specs.Plan.{gatesGiven, planExtra, planPath}
 use Rattle.tree.specs.declared.plan.Plan.{Plan}
+use Rattle.pieces.specs.Records.{rowsOf}
+use Rattle.pieces.specs.Rows.{rowsFault}
 use Rattle.columns.specs.Digits.{Spelled}
 use Rattle.columns.specs.declared.rows.GateRows.{GateRows}
 
@@ -19,6 +21,15 @@ pub record Spells (many : ℕ) (path : ℕ → List ℕ) (bits steps : List ℕ)
 pub record Fits (many height : ℕ) (own steps : List ℕ) : Type 0 where
   pub short : (g : ℕ) → g < many → getD steps g 0 ≤ 32
   pub fits : (g : ℕ) → g < many → getD steps g 0 + getD own g 0 ≤ height
+
+-- rows that some gates, at most 128 of them, and some trace have no fault with, from the row `count` on
+pub record Faultless (count : ℕ) (piece : List ℕ) : Type 0 where
+  pub many : ℕ
+  pub own : ℕ → ℕ
+  pub trace : ℕ
+  pub few : many ≤ 128
+  pub long : trace ≤ 65536
+  pub no-fault : rowsFault many own trace count (rowsOf piece) ≡ 0
 
 -- the gates of a sound plan
 pub record GatesOf (q : Plan) (r : GateRows) : Type 0 where

@@ -26,9 +26,9 @@ use Rattle.selector.specs.Paths.{pathTo, pathOf, orEmpty, bitsOf}
 use Rattle.selector.specs.PathLaws.{path-some, path-fits, path-deep}
 use Rattle.selector.specs.Refusals.{Sound as Records, recordNumber, recordsNumber, gatesNumber}
 use Rattle.selector.specs.RecordLaws.{gates-sound}
-use Rattle.tree.specs.Lookup.{modeOf, widthOf}
-use Rattle.tree.specs.Parameters.{rangeNumber, flagNumber, parametersNumber}
-use Rattle.tree.specs.ParametersLaws.{InRange, in-range}
+use Rattle.parameters.specs.Lookup.{modeOf, widthOf}
+use Rattle.parameters.specs.Parameters.{rangeNumber, flagNumber, parametersNumber}
+use Rattle.parameters.specs.ParametersLaws.{InRange, in-range}
 use Rattle.tree.specs.Plan.{gatesGiven, parametersOf, pathAnswer, pathIn, planExtra, planFault, planPath}
 use Rattle.tree.specs.PlanLaws.{Faultless, fault-none}
 use Rattle.tree.specs.declared.plan.Plan.{Plan}

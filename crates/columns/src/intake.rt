@@ -15,6 +15,7 @@ use crate::finishing::write_firsts;
 use crate::gates::gate_rows;
 use crate::opening::clear;
 use crate::records::write_words;
+use crate::rows::mark_rows;
 use crate::rows::rows_fault;
 use crate::rows::write_rows;
 use crate::s_words::s_words_fault;
@@ -59,14 +60,14 @@ fn refused(number: u64, state: Intake) -> Taken
 }
 
 // The named words of each buffer.
-struct Rooms {
-    constants: usize,
-    copies: usize,
-    scratch: usize,
-    tables: usize,
+pub(crate) struct Rooms {
+    pub(crate) constants: usize,
+    pub(crate) copies: usize,
+    pub(crate) scratch: usize,
+    pub(crate) tables: usize,
 }
 
-fn rooms_of(plan: Plan) -> Rooms
+pub(crate) fn rooms_of(plan: Plan) -> Rooms
     requires { ⌜ planFault plan ≡ 0 ⌝ }
     ensures { λ r. ⌜ RoomsOf (settingOf plan) r ⌝ }
 {
@@ -192,13 +193,13 @@ impl Intake {
                 return refused(fault, self);
             }
             let mut used = self.used;
-            let rows = write_rows(
+            let rows = mark_rows(self.rows, piece, &mut used);
+            write_rows(
                 plan.constants,
                 plan.trace,
                 self.rows,
                 gates,
                 piece,
-                &mut used,
                 constants,
             );
             let state = Intake {
@@ -319,7 +320,7 @@ impl Intake {
     }
 
     // Whether rows, S words and cells are all there.
-    fn complete(self) -> bool
+    pub(crate) fn complete(self) -> bool
         requires { ⌜ planFault (self .plan) ≡ 0 ⌝ }
         ensures { λ r. ⌜ r ≡ complete (settingOf (self .plan)) (stateOf self) ⌝ }
     {

@@ -7,4 +7,5 @@ mod opening;
 mod records;
 mod rows;
 mod s_words;
+pub mod sections;
 mod tables;

@@ -7,7 +7,7 @@ ghost use Rattle.pieces.specs.Records.{rowSize, front, rowsOf};
 ghost use Rattle.pieces.specs.Writing.{put, padded, putLines};
 ghost use Rattle.pieces.specs.Rows.{rowFault, rowsFault, rowLines, marked};
 ghost use Rattle.columns.specs.Digits.{Spelled};
-ghost use Rattle.columns.specs.Placed.{Spells, Fits};
+ghost use Rattle.columns.specs.Placed.{Spells, Fits, Faultless};
 use crate::records::all_below;
 use crate::records::write_path;
 use crate::records::write_words;
@@ -95,21 +95,35 @@ pub struct GateRows {
     pub own: [u64; 128],
 }
 
-// The records of a piece without a fault, in the rows from `count` on; their gates are marked.
+// The records of a piece without a fault, counted on from `count`; their gates are marked.
+pub(crate) fn mark_rows(count: u64, piece: &[u64], used: &mut [u64; 128]) -> u64
+    requires { ⌜ Faultless count (now piece) ⌝ }
+    ensures { λ r. ⌜ r ≡ count + length (rowsOf (now (piece .entry))) ⌝ }
+    ensures { λ _. ⌜ now (used .exit) ≡ marked (now (used .entry)) (rowsOf (now (piece .entry))) ⌝ }
+{
+    let mut row = count;
+    let mut i = 0;
+    while i < piece.len() {
+        let g = piece[i] as usize;
+        used[g] = 1;
+        row = row + 1;
+        i = i + 2 + piece[i + 1] as usize;
+    }
+    row
+}
+
+// The records of a piece without a fault, in the rows from `count` on.
 pub(crate) fn write_rows(
     height: u64,
     trace: u64,
     count: u64,
     gates: GateRows,
     piece: &[u64],
-    used: &mut [u64; 128],
     constants: &mut [u64],
-) -> u64
+)
     requires { ⌜ (trace ≤ 65536) × (height ≤ 64) × (gates .many ≤ 128) × (height * trace ≤ length (now constants)) ⌝ }
     requires { ⌜ Fits (gates .many) height (gates .own) (gates .steps) ⌝ }
     requires { ⌜ rowsFault (gates .many) (λ (g : ℕ). getD (gates .own) g 0) trace count (rowsOf (now piece)) ≡ 0 ⌝ }
-    ensures { λ r. ⌜ r ≡ count + length (rowsOf (now (piece .entry))) ⌝ }
-    ensures { λ _. ⌜ now (used .exit) ≡ marked (now (used .entry)) (rowsOf (now (piece .entry))) ⌝ }
     ensures { λ _. ⌜ ((path : ℕ → List ℕ) → Spells (gates .many) path (gates .bits) (gates .steps) → now (constants .exit) ≡ putLines height trace count (rowLines path (rowsOf (now (piece .entry)))) (now (constants .entry))) ⌝ }
 {
     let bits = gates.bits;
@@ -129,9 +143,7 @@ pub(crate) fn write_rows(
             &piece[start..end],
             constants,
         );
-        used[g] = 1;
         row = row + 1;
         i = end;
     }
-    row
 }

@@ -1,11 +1,12 @@
 -- The pass that lays a tree out in preorder: what is known at a node, and what a leaf and a fork leave.
 --
--- Main statements: `sides`, `done-leaf`, `done-fork`, `found`, `found-room`.
+-- Main statements: `sides`, `done-leaf`, `done-fork`, `found`, `found-room`, `laid-shape`.
 use Prim.Native.Nat.{_+_, _-_, _<_, _≤_, max, suc, ℕ}
+use lib.ListN.{replicate}
 use mathlib.Core.List.{List}
 use mathlib.Core.Logic.{inl, inr}
 use mathlib.Core.Option.{Option, none, some}
-use mathlib.Core.Path.{_∙_, _≡_, ap, refl}
+use mathlib.Core.Path.{_∙_, _≡_, ap, refl, sym}
 use native.Mathlib.Omega.{arith}
 use Rattle.selector.specs.Flat.{Stands, Stood}
 use Rattle.selector.specs.Gates.{constantsOf, degreeAt}
@@ -14,11 +15,12 @@ use Rattle.selector.specs.Nodes.{Holds, gateAt, laid, leftAt, put, rightAt}
 use Rattle.selector.specs.RecordLaws.{degree-small}
 use Rattle.selector.specs.Refusals.{Sound}
 use Rattle.selector.specs.RunLaws.{whole}
-use Rattle.selector.specs.Search.{constantsOver, degreeOver}
+use Rattle.selector.specs.Search.{constantsOver, degreeOver, factor, treeD, treeK}
 use Rattle.selector.specs.Tree.{Tree, depth, fork, leaf, size}
 use Rattle.tree.specs.Layout.{Done, Room, walked}
+use Rattle.tree.specs.Shapes.{shapeOf}
+use Rattle.tree.specs.declared.nodes.Shape.{Shape}
 use Rattle.tree.specs.declared.nodes.Stats.{Stats}
-use borrow.Fn.PlainCycle.{is}
 
 -- the sides of the fork at node i
 pub record Sides (m : ℕ) (old : List ℕ) (i f next : ℕ) : Type 0 where
@@ -146,3 +148,20 @@ pub found-room : (m : ℕ) (q : Option Tree) (ns : List ℕ) (n : ℕ) → Found
 found-room m q ns n w =
     let s = w .stood in
     record { tree = w .tree; holds = w .whole; listed = s .listed; room = omega (arith, s .sized, s .small); deep = w .shallow }
+
+-- a tree that was found and laid out over zeros
+module _ (x : ℕ) (gs : List ℕ) (m : ℕ) (q : Option Tree) (ns : List ℕ) (n : ℕ) (w : Found m q ns n) (out : List ℕ) (r : Stats) (done : Done x gs 0 (w .tree) (record { next = 0; degree = 0; constants = 0 }) (replicate 765 0) out r) where
+  laid-degree : r .degree ≡ treeD gs (w .tree)
+  laid-degree = ap (λ (z : Stats). z .degree) (done .sums) ∙ omega arith
+
+  pub laid-small : Sound gs m x → r .degree ≤ 1024
+  laid-small s =
+      let d = degree-over-small gs m x s (w .tree) 0 (w .stood .listed) in
+      omega (arith, laid-degree, w .shallow, d)
+
+  pub laid-shape : (f : ℕ) → f ≡ factor (r .degree)
+      → _≡_ {A = Shape} (record { nodes = out; count = r .next; degree = r .degree; constants = r .constants; factor = f }) (shapeOf x gs q)
+  laid-shape f e =
+      let a : r .next ≡ size (w .tree) = ap (λ (z : Stats). z .next) (done .sums) ∙ omega arith in
+      let k : r .constants ≡ treeK x gs (w .tree) = ap (λ (z : Stats). z .constants) (done .sums) ∙ omega arith in
+      rw (w .is, e, laid-degree, a, k, done .nodes) refl

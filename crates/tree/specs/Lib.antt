@@ -1,9 +1,6 @@
 -- 01, 'Gates and tree', what the public functions of the layer answer; below it the vocabulary of the contracts inside.
-pub mod Lookup
-pub mod Parameters
 pub mod Shapes
 pub mod Plan
-pub mod ParametersLaws
 pub mod PlanLaws
 pub mod Offers
 pub mod Layout

@@ -15,12 +15,12 @@ use Rattle.selector.specs.Paths.{bitsOf, pathOf}
 use Rattle.selector.specs.Refusals.{extraOf, gateCount, gatesNumber, mostGates, wordsFit}
 use Rattle.selector.specs.Search.{factor, planTree}
 use Rattle.selector.specs.Tree.{Tree}
-use Rattle.tree.specs.Lookup.{flagOf, modeOf, shareOf, widthOf}
-use Rattle.tree.specs.Parameters.{lookupOf, parametersNumber}
+use Rattle.parameters.specs.Lookup.{flagOf, modeOf, shareOf, widthOf}
+use Rattle.parameters.specs.Parameters.{lookupOf, parametersNumber}
 use Rattle.tree.specs.Shapes.{shapeOf}
-use Rattle.tree.specs.declared.lookup.LookupParameters.the-variants.{NoLookup}
+use Rattle.parameters.specs.declared.lookup.LookupParameters.the-variants.{NoLookup}
 use Rattle.tree.specs.declared.nodes.Shape.{Shape}
-use Rattle.tree.specs.declared.parameters.Parameters.{Parameters}
+use Rattle.parameters.specs.declared.parameters.Parameters.{Parameters}
 use Rattle.tree.specs.declared.plan.Path.{Path}
 use Rattle.tree.specs.declared.plan.Plan.{Plan}
 use Rattle.tree.specs.declared.plan.TableId.{TableId}

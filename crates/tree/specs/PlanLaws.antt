@@ -22,13 +22,13 @@ use Rattle.selector.specs.Refusals.{Sound, extraOf, gateCount, gatesNumber, mos
 use Rattle.selector.specs.Search.{bounds, factor, planTree, searchTree}
 use Rattle.selector.specs.SearchLaws.{search-facts}
 use Rattle.selector.specs.Tree.{Tree, leaf}
-use Rattle.tree.specs.Lookup.{modeOf}
-use Rattle.tree.specs.Parameters.{flagNumber, lookupOf, parametersNumber, rangeNumber}
-use Rattle.tree.specs.ParametersLaws.{InRange, in-range, lookup-words}
+use Rattle.parameters.specs.Lookup.{modeOf}
+use Rattle.parameters.specs.Parameters.{flagNumber, lookupOf, parametersNumber, rangeNumber}
+use Rattle.parameters.specs.ParametersLaws.{InRange, in-range, lookup-words}
 use Rattle.tree.specs.Plan.{gatesGiven, parametersOf, planAnswer, planExtra, planFault, planNumber, planWith, planned, refusedPlan, treeFor, treeNumber, wordsNumber}
 use Rattle.tree.specs.Shapes.{shapeOf}
 use Rattle.tree.specs.declared.nodes.Shape.{Shape}
-use Rattle.tree.specs.declared.parameters.Parameters.{Parameters}
+use Rattle.parameters.specs.declared.parameters.Parameters.{Parameters}
 use Rattle.tree.specs.declared.plan.Plan.{Plan}
 use borrow.Fn.PlainCycle.{is}
 

@@ -1,15 +1,15 @@
 // Plans by value: the test for a made-up plan, paths and the table-id index.
 ghost use mathlib.Core.Path.{_≡_};
-ghost use Rattle.tree.specs.Lookup.{flagOf};
+ghost use Rattle.parameters.specs.Lookup.{flagOf};
 ghost use Rattle.tree.specs.Plan.{zeroPlan, parametersOf, planFault, pathAnswer, tableIdAnswer};
 use crate::gates::GATE_WORDS;
-use crate::lookup::LookupParameters;
 use crate::made_up::nodes_fit;
-use crate::parameters::Parameters;
 use crate::paths::output_placement;
 use crate::refusals::extra_of;
 use crate::refusals::gates_number;
 use crate::refusals::words_fit;
+use parameters::lookup::LookupParameters;
+use parameters::parameters::Parameters;
 
 // Parameters, lookup mode, gates, and the tree in preorder, three words a node; D, K and F. Unused words are 0 in a plan that planning made.
 pub struct Plan {

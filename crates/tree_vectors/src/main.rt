@@ -3,8 +3,8 @@
 ghost use mathlib.Core.Path.{_≡_};
 ghost use lib.ListN.{length};
 use libc::STDOUT_FILENO;
+use parameters::parameters::Parameters;
 use replay::Replay;
-use tree::parameters::Parameters;
 use tree::plan::Plan;
 use tree::planning::Planned;
 

@@ -1,14 +1,11 @@
-use borrow.Author.Needs.{needs}
-use mathlib.Core.Path.{_≡_, refl, sym, ap, _∙_}
-use native.Mathlib.Omega.{arith}
-use native.Mathlib.Numerals.{add-one}
-use Prim.Native.Nat.{ℕ, _+_, _-_, _≤_}
+use Prim.Native.Nat.{_-_, _≤_}
 use lib.ListN.{length}
-use lib.Seq.{paste, paste-zero, paste-suc, length-paste}
+use lib.Seq.{length-paste, paste, paste-suc, paste-zero}
+use mathlib.Core.Path.{_∙_, _≡_, ap}
+use native.Mathlib.Numerals.{add-one}
+use native.Mathlib.Omega.{arith}
 use Rattle.capi.proofs.encoding.copy_words.Statement.{statement}
 use Rattle.capi.proofs.encoding.copy_words.Tie as tie
-use Rattle.capi.proofs.encoding.copy_words.Reads as reads
-use Rattle.capi.proofs.encoding.copy_words.Lts as lts
 
 abbrev Inv-loop : tie.InvT-loop
 Inv-loop from at to₀ i₀ to i = (i ≤ length from) × (to ≡ paste to₀ at from i)
@@ -16,56 +13,45 @@ Inv-loop from at to₀ i₀ to i = (i ≤ length from) × (to ≡ paste to₀ at
 abbrev μ-loop : tie.MeasureT-loop
 μ-loop from at to₀ i₀ to i = length from - i
 
--- src/encoding.rt:37:5
 loop-holds : tie.Need-loop-holds Inv-loop μ-loop
 loop-holds c = (omega arith, paste-zero (c .args .to .now) (c .args .at) (c .args .from .now))
 
--- src/encoding.rt:38:22
 mul-to : tie.Need-mul-to Inv-loop μ-loop
 mul-to c = omega arith
 
--- src/encoding.rt:38:22
 shared-slice-read-to : tie.Need-shared-slice-read-to Inv-loop μ-loop
 shared-slice-read-to c = omega arith
 
--- src/encoding.rt:38:12
 add-to : tie.Need-add-to Inv-loop μ-loop
 add-to c = omega arith
 
--- src/encoding.rt:38:9
 mul-to-2 : tie.Need-mul-to-2 Inv-loop μ-loop
 mul-to-2 c = omega arith
 
--- src/encoding.rt:38:9
 slice-write-to : tie.Need-slice-write-to Inv-loop μ-loop
 slice-write-to c =
     let l = c .before .before .loop in
     let a = c .before .before .before .args in
     omega (arith, ap length (l .inv .1), length-paste (a .to .now) (a .at) (a .from .now) (l .i) (omega arith) (l .inv .0))
 
--- src/encoding.rt:39:13
 add-i : tie.Need-add-i Inv-loop μ-loop
 add-i c = omega arith
 
--- src/encoding.rt:37:5
 loop-less : tie.Need-loop-less Inv-loop μ-loop
 loop-less c = omega arith
 
--- src/encoding.rt:37:5
 loop-again : tie.Need-loop-again Inv-loop μ-loop
 loop-again c =
     let l = c .before .before .loop in
     let a = c .before .before .before .args in
     (omega arith, rw (l .inv .1, add-one) (paste-suc (a .to .now) (a .at) (a .from .now) (l .i) 0 (omega arith) (omega arith)))
 
--- src/encoding.rt:32:1
 same-length : tie.Need-same-length Inv-loop μ-loop
 same-length c =
     let l = c .before .loop in
     let a = c .before .before .args in
     ap length (l .inv .1) ∙ length-paste (a .to .now) (a .at) (a .from .now) (l .i) (omega arith) (l .inv .0)
 
--- src/encoding.rt:32:1
 returns : tie.Need-returns Inv-loop μ-loop
 returns c =
     let l = c .before .loop in

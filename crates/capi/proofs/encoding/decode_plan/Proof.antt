@@ -1,146 +1,105 @@
-use mathlib.Core.Path.{_≡_, refl, sym, ap, _∙_}
-use native.Mathlib.Omega.{arith}
-use Prim.Native.Nat.{ℕ, _+_, _≤_}
-use Rattle.capi.specs.EncodingLaws.{plan-made, plan-none, plan-other}
 use borrow.Author.Needs.{needs}
+use mathlib.Core.Path.{_∙_, sym}
+use Rattle.capi.specs.EncodingLaws.{plan-made, plan-none, plan-other}
 use Rattle.capi.proofs.encoding.decode_plan.Statement.{statement}
 use Rattle.capi.proofs.encoding.decode_plan.Tie as tie
-use Rattle.capi.proofs.encoding.decode_plan.Reads as reads
-use Rattle.capi.proofs.encoding.decode_plan.Lts as lts
-use Rattle.capi.proofs.encoding.copy_words.Reads as copy-words-reads
-use Rattle.capi.proofs.encoding.lookup_fits.Reads as lookup-fits-reads
-use Rattle.capi.proofs.encoding.parameters_at.Reads as parameters-at-reads
-use Rattle.tree.proofs.parameters.Parameters.lookup.Reads as lookup-reads
-use Rattle.tree.proofs.plan.Plan.zero.Reads as zero-reads
 
--- src/encoding.rt:103:9
 zero-requires : tie.Need-zero-requires
 zero-requires c κs = search needs
 
--- src/encoding.rt:103:9
 returns : tie.Need-returns
 returns c = c .zero .ensures ∙ plan-other (c .before .before .before .args .words .now) (c .before .if1 .taken)
 
--- src/encoding.rt:105:20
 shared-slice-read-lookup-fits : tie.Need-shared-slice-read-lookup-fits
 shared-slice-read-lookup-fits c = search needs
 
--- src/encoding.rt:105:30
 shared-slice-read-lookup-fits-2 : tie.Need-shared-slice-read-lookup-fits-2
 shared-slice-read-lookup-fits-2 c = search needs
 
--- src/encoding.rt:105:40
 shared-slice-read-lookup-fits-3 : tie.Need-shared-slice-read-lookup-fits-3
 shared-slice-read-lookup-fits-3 c = search needs
 
--- src/encoding.rt:105:8
 lookup-fits-requires : tie.Need-lookup-fits-requires
 lookup-fits-requires c κs = search needs
 
--- src/encoding.rt:106:13
 parameters-at-requires : tie.Need-parameters-at-requires
 parameters-at-requires c κs = search needs
 
--- src/encoding.rt:108:20
 sub-copy-words : tie.Need-sub-copy-words
 sub-copy-words c = search needs
 
--- src/encoding.rt:108:20
 part-copy-words-start : tie.Need-part-copy-words-start
 part-copy-words-start c = search needs
 
--- src/encoding.rt:108:20
 part-copy-words-end : tie.Need-part-copy-words-end
 part-copy-words-end c = search needs
 
--- src/encoding.rt:108:52
 slice-aggregate-copy-words : tie.Need-slice-aggregate-copy-words
 slice-aggregate-copy-words c = search needs
 
--- src/encoding.rt:108:9
 copy-words-requires : tie.Need-copy-words-requires
 copy-words-requires c κs = search needs
 
--- src/encoding.rt:110:20
 sub-copy-words-2 : tie.Need-sub-copy-words-2
 sub-copy-words-2 c = search needs
 
--- src/encoding.rt:110:20
 part-copy-words-start-2 : tie.Need-part-copy-words-start-2
 part-copy-words-start-2 c = search needs
 
--- src/encoding.rt:110:20
 part-copy-words-end-2 : tie.Need-part-copy-words-end-2
 part-copy-words-end-2 c = search needs
 
--- src/encoding.rt:110:55
 slice-aggregate-copy-words-2 : tie.Need-slice-aggregate-copy-words-2
 slice-aggregate-copy-words-2 c = search needs
 
--- src/encoding.rt:110:9
 copy-words-requires-2 : tie.Need-copy-words-requires-2
 copy-words-requires-2 c κs = search needs
 
--- src/encoding.rt:117:21
 lookup-requires : tie.Need-lookup-requires
 lookup-requires c κs = search needs
 
--- src/encoding.rt:119:25
 shared-slice-read-t29 : tie.Need-shared-slice-read-t29
 shared-slice-read-t29 c = search needs
 
--- src/encoding.rt:121:25
 shared-slice-read-t32 : tie.Need-shared-slice-read-t32
 shared-slice-read-t32 c = search needs
 
--- src/encoding.rt:122:27
 add-t16 : tie.Need-add-t16
 add-t16 c = search needs
 
--- src/encoding.rt:122:21
 mul-t33 : tie.Need-mul-t33
 mul-t33 c = search needs
 
--- src/encoding.rt:122:21
 shared-slice-read-t35 : tie.Need-shared-slice-read-t35
 shared-slice-read-t35 c = search needs
 
--- src/encoding.rt:123:30
 add-t36 : tie.Need-add-t36
 add-t36 c = search needs
 
--- src/encoding.rt:123:24
 mul-t37 : tie.Need-mul-t37
 mul-t37 c = search needs
 
--- src/encoding.rt:123:24
 shared-slice-read-t39 : tie.Need-shared-slice-read-t39
 shared-slice-read-t39 c = search needs
 
--- src/encoding.rt:124:27
 add-t40 : tie.Need-add-t40
 add-t40 c = search needs
 
--- src/encoding.rt:124:21
 mul-t41 : tie.Need-mul-t41
 mul-t41 c = search needs
 
--- src/encoding.rt:124:21
 shared-slice-read-t43 : tie.Need-shared-slice-read-t43
 shared-slice-read-t43 c = search needs
 
--- src/encoding.rt:111:9
 returns-2 : tie.Need-returns-2
 returns-2 c =
     let ws = c .before .before .before .before .before .before .before .before .before .before .before .before .before .before .before .before .before .before .before .before .before .before .args .words .now in
     plan-made ws (c .before .before .before .before .before .before .before .before .before .before .before .before .before .before .before .before .before .before .before .before .if1 .left) (sym (c .before .before .before .before .before .before .before .before .before .before .before .before .before .before .before .before .lookup-fits .ensures) ∙ c .before .before .before .before .before .before .before .before .before .before .before .before .before .before .before .if2 .taken)
     _ _ _ _ (c .before .before .before .before .before .before .before .before .before .before .before .before .before .before .parameters-at .ensures) (c .before .before .before .before .before .lookup .ensures) (c .before .before .before .before .before .before .before .before .before .before .before .copy-words .ensures) (c .before .before .before .before .before .before .before .copy-words2 .ensures)
 
--- src/encoding.rt:127:5
 zero-requires-2 : tie.Need-zero-requires-2
 zero-requires-2 c κs = search needs
 
--- src/encoding.rt:99:1
 returns-3 : tie.Need-returns-3
 returns-3 c =
     c .zero2 .ensures ∙ plan-none (c .before .before .before .before .before .before .before .before .args .words .now) (c .before .before .before .before .before .before .if1 .left) (sym (c .before .before .lookup-fits .ensures) ∙ c .before .if2 .left)

@@ -1,113 +1,82 @@
-use mathlib.Core.Path.{_≡_, refl, sym, ap, _∙_}
-use native.Mathlib.Omega.{arith}
-use Prim.Native.Nat.{ℕ, _+_, _≤_}
-use lib.ListN.{length}
-use lib.Seq.{length-take-le}
-use Rattle.tree.specs.declared.plan.Plan.{Plan}
-use Rattle.columns.specs.Intake.{startOf}
-use Rattle.capi.specs.EncodingLaws.{state-made, state-other}
 use borrow.Author.Needs.{needs}
+use lib.Seq.{length-take-le}
+use mathlib.Core.Path.{_∙_, ap, sym}
+use native.Mathlib.Omega.{arith}
+use Rattle.columns.specs.Intake.{startOf}
+use Rattle.tree.specs.declared.plan.Plan.{Plan}
+use Rattle.capi.specs.EncodingLaws.{state-made, state-other}
 use Rattle.capi.proofs.encoding.decode_state.Statement.{statement}
 use Rattle.capi.proofs.encoding.decode_state.Tie as tie
-use Rattle.capi.proofs.encoding.decode_state.Reads as reads
-use Rattle.capi.proofs.encoding.decode_state.Lts as lts
-use Rattle.capi.proofs.encoding.copy_words.Reads as copy-words-reads
-use Rattle.capi.proofs.encoding.decode_plan.Reads as decode-plan-reads
-use Rattle.tree.proofs.plan.Plan.zero.Reads as zero-reads
 
--- src/encoding.rt:165:19
 zero-requires : tie.Need-zero-requires
 zero-requires c κs = search needs
 
--- src/encoding.rt:164:9
 returns : tie.Need-returns
 returns c = ap (λ (q : Plan). startOf q 0) (c .zero .ensures) ∙ state-other (c .before .before .before .args .words .now) (c .before .if1 .taken)
 
--- src/encoding.rt:175:16
 sub-copy-words : tie.Need-sub-copy-words
 sub-copy-words c = search needs
 
--- src/encoding.rt:175:16
 part-copy-words-start : tie.Need-part-copy-words-start
 part-copy-words-start c = search needs
 
--- src/encoding.rt:175:16
 part-copy-words-end : tie.Need-part-copy-words-end
 part-copy-words-end c = search needs
 
--- src/encoding.rt:175:49
 slice-aggregate-copy-words : tie.Need-slice-aggregate-copy-words
 slice-aggregate-copy-words c = search needs
 
--- src/encoding.rt:175:5
 copy-words-requires : tie.Need-copy-words-requires
 copy-words-requires c κs = search needs
 
--- src/encoding.rt:177:27
 slice-aggregate-decode-plan : tie.Need-slice-aggregate-decode-plan
 slice-aggregate-decode-plan c = sym (length-take-le 1162 (c .before .before .before .before .before .before .before .args .words .now) (omega (arith, c .before .before .before .before .before .if1 .left)))
 
--- src/encoding.rt:177:15
 decode-plan-requires : tie.Need-decode-plan-requires
 decode-plan-requires c κs = search needs
 
--- src/encoding.rt:178:15
 shared-slice-read-t17 : tie.Need-shared-slice-read-t17
 shared-slice-read-t17 c = search needs
 
--- src/encoding.rt:179:24
 add-t3 : tie.Need-add-t3
 add-t3 c = search needs
 
--- src/encoding.rt:179:18
 mul-t18 : tie.Need-mul-t18
 mul-t18 c = search needs
 
--- src/encoding.rt:179:18
 shared-slice-read-t20 : tie.Need-shared-slice-read-t20
 shared-slice-read-t20 c = search needs
 
--- src/encoding.rt:180:22
 add-t21 : tie.Need-add-t21
 add-t21 c = search needs
 
--- src/encoding.rt:180:16
 mul-t22 : tie.Need-mul-t22
 mul-t22 c = search needs
 
--- src/encoding.rt:180:16
 shared-slice-read-t24 : tie.Need-shared-slice-read-t24
 shared-slice-read-t24 c = search needs
 
--- src/encoding.rt:181:23
 add-t25 : tie.Need-add-t25
 add-t25 c = search needs
 
--- src/encoding.rt:181:17
 mul-t26 : tie.Need-mul-t26
 mul-t26 c = search needs
 
--- src/encoding.rt:181:17
 shared-slice-read-t28 : tie.Need-shared-slice-read-t28
 shared-slice-read-t28 c = search needs
 
--- src/encoding.rt:182:27
 add-t29 : tie.Need-add-t29
 add-t29 c = search needs
 
--- src/encoding.rt:182:21
 mul-t30 : tie.Need-mul-t30
 mul-t30 c = search needs
 
--- src/encoding.rt:182:21
 shared-slice-read-t32 : tie.Need-shared-slice-read-t32
 shared-slice-read-t32 c = search needs
 
--- src/encoding.rt:184:16
 shared-slice-read-t35 : tie.Need-shared-slice-read-t35
 shared-slice-read-t35 c = search needs
 
--- src/encoding.rt:159:1
 returns-2 : tie.Need-returns-2
 returns-2 c =
     let ws = c .before .before .before .before .before .before .before .before .before .before .before .before .before .before .args .words .now in

@@ -1,12 +1,8 @@
+use borrow.Author.Tests.{eq-eqb, le-leb, le-ltb, lt-leb, lt-ltb, ne-eqb}
 use Rattle.capi.specs.Encoding.{lookupFits}
-use borrow.Author.Tests.{lt-ltb, le-ltb, le-leb, lt-leb, eq-eqb, ne-eqb}
-use mathlib.Core.Path.{sym, _∙_}
 use Rattle.capi.proofs.encoding.lookup_fits.Statement.{statement}
 use Rattle.capi.proofs.encoding.lookup_fits.Tie as tie
-use Rattle.capi.proofs.encoding.lookup_fits.Reads as reads
-use Rattle.capi.proofs.encoding.lookup_fits.Lts as lts
 
--- src/encoding.rt:74:9
 returns : tie.Need-returns
 unfolding lookupFits
 returns c =
@@ -15,7 +11,6 @@ returns c =
       lt-leb _ _ (c .if1 .taken),
     )
 
--- src/encoding.rt:77:9
 returns-2 : tie.Need-returns-2
 unfolding lookupFits
 returns-2 c =
@@ -26,7 +21,6 @@ returns-2 c =
       le-ltb _ _ (c .before .if1 .left),
     )
 
--- src/encoding.rt:81:13
 returns-3 : tie.Need-returns-3
 unfolding lookupFits
 returns-3 c =
@@ -39,7 +33,6 @@ returns-3 c =
       le-ltb _ _ (c .before .before .before .if1 .left),
     )
 
--- src/encoding.rt:83:9
 returns-4 : tie.Need-returns-4
 unfolding lookupFits
 returns-4 c =
@@ -52,7 +45,6 @@ returns-4 c =
       le-ltb _ _ (c .before .before .before .if1 .left),
     )
 
--- src/encoding.rt:70:1
 returns-5 : tie.Need-returns-5
 unfolding lookupFits
 returns-5 c =

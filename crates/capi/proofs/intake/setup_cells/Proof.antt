@@ -1,44 +1,30 @@
-use mathlib.Core.Path.{_≡_, refl, sym, ap, _∙_}
-use native.Mathlib.Omega.{arith}
-use Prim.Native.Nat.{ℕ, _+_, _≤_}
-use Rattle.pieces.specs.Setting.{cols}
+use borrow.Author.Needs.{needs}
+use mathlib.Core.Path.{_∙_, ap}
 use Rattle.columns.specs.Intake.{cellsAnswer, cellsLeft}
 use Rattle.columns.specs.declared.intake.Intake.{Intake}
+use Rattle.pieces.specs.Setting.{cols}
 use Rattle.capi.specs.IntakeLaws.{passed}
-use borrow.Author.Needs.{needs}
 use Rattle.capi.proofs.intake.setup_cells.Statement.{statement}
 use Rattle.capi.proofs.intake.setup_cells.Tie as tie
-use Rattle.capi.proofs.intake.setup_cells.Reads as reads
-use Rattle.capi.proofs.intake.setup_cells.Lts as lts
-use Rattle.capi.proofs.encoding.decode_state.Reads as decode-state-reads
-use Rattle.capi.proofs.intake.give_back.Reads as give-back-reads
-use Rattle.columns.proofs.intake.Intake.cells.Reads as cells-reads
 
--- src/intake.rt:89:17
 decode-state-requires : tie.Need-decode-state-requires
 decode-state-requires c κs = search needs
 
--- src/intake.rt:89:9
 cells-requires : tie.Need-cells-requires
 cells-requires c κs = search needs
 
--- src/intake.rt:90:5
 give-back-requires : tie.Need-give-back-requires
 give-back-requires c κs = search needs
 
--- src/intake.rt:78:1
 same-length : tie.Need-same-length
 same-length c = search needs
 
--- src/intake.rt:78:1
 same-length-2 : tie.Need-same-length-2
 same-length-2 c = search needs
 
--- src/intake.rt:78:1
 same-length-3 : tie.Need-same-length-3
 same-length-3 c = search needs
 
--- src/intake.rt:78:1
 returns : tie.Need-returns
 returns c =
     let a = c .before .before .before .before .before .before .before .before .before .before .before .before .before .before .before .before .before .args in

@@ -1,29 +1,17 @@
-use mathlib.Core.Path.{_≡_, refl, sym, ap, _∙_}
-use native.Mathlib.Omega.{arith}
-use Prim.Native.Nat.{ℕ, _+_, _≤_}
-use lib.ListN.{length}
-use Rattle.columns.specs.Intake.{storeOf}
-use Rattle.pieces.specs.Setting.{Store}
-use Rattle.capi.specs.IntakeLaws.{open-given, open-made-up, open-short}
 use borrow.Author.Needs.{needs}
+use lib.ListN.{length}
+use mathlib.Core.Path.{_∙_, _≡_, sym}
+use Rattle.columns.specs.Intake.{storeOf}
+use Rattle.capi.specs.IntakeLaws.{open-given, open-made-up, open-short}
 use Rattle.capi.proofs.intake.setup_open.Statement.{statement}
 use Rattle.capi.proofs.intake.setup_open.Tie as tie
-use Rattle.capi.proofs.intake.setup_open.Reads as reads
-use Rattle.capi.proofs.intake.setup_open.Lts as lts
-use Rattle.capi.proofs.encoding.decode_plan.Reads as decode-plan-reads
-use Rattle.capi.proofs.encoding.encode_state.Reads as encode-state-reads
-use Rattle.columns.proofs.intake.Intake.open.Reads as open-reads
-use Rattle.tree.proofs.plan.Plan.fault.Reads as fault-reads
 
--- src/intake.rt:42:9
 decode-plan-requires : tie.Need-decode-plan-requires
 decode-plan-requires c κs = search needs
 
--- src/intake.rt:44:12
 fault-requires : tie.Need-fault-requires
 fault-requires c κs = search needs
 
--- src/intake.rt:45:13
 -- the arrays of a plan by value have their lengths
 gates-long : (c : tie.After-decode-plan) → length (c .decode-plan .result .gates) ≡ 384
 gates-long c = search needs
@@ -38,7 +26,6 @@ returns c =
     open-short (a .plan .now) (a .state .now) (storeOf (a .constants .now) (a .copies .now) (a .scratch .now) (a .tables .now))
     (d .decode-plan .result) (d .decode-plan .ensures) (gates-long d) (nodes-long d) (sym (c .before .fault .ensures) ∙ c .if2 .taken) (c .before .before .if1 .taken)
 
--- src/intake.rt:47:9
 returns-2 : tie.Need-returns-2
 returns-2 c =
     let a = c .before .before .before .before .before .before .before .before .before .before .args in
@@ -46,35 +33,27 @@ returns-2 c =
     open-made-up (a .plan .now) (a .state .now) (storeOf (a .constants .now) (a .copies .now) (a .scratch .now) (a .tables .now))
     (d .decode-plan .result) (d .decode-plan .ensures) (gates-long d) (nodes-long d) (λ z. c .if2 .left (c .before .fault .ensures ∙ z)) (c .before .before .if1 .taken)
 
--- src/intake.rt:49:9
 open-requires : tie.Need-open-requires
 open-requires c κs = search needs
 
--- src/intake.rt:51:5
 encode-state-requires : tie.Need-encode-state-requires
 encode-state-requires c κs = search needs
 
--- src/intake.rt:29:1
 same-length : tie.Need-same-length
 same-length c = search needs
 
--- src/intake.rt:29:1
 same-length-2 : tie.Need-same-length-2
 same-length-2 c = search needs
 
--- src/intake.rt:29:1
 same-length-3 : tie.Need-same-length-3
 same-length-3 c = search needs
 
--- src/intake.rt:29:1
 same-length-4 : tie.Need-same-length-4
 same-length-4 c = search needs
 
--- src/intake.rt:29:1
 same-length-5 : tie.Need-same-length-5
 same-length-5 c = search needs
 
--- src/intake.rt:29:1
 returns-3 : tie.Need-returns-3
 returns-3 c =
     let a = c .before .before .before .before .before .before .before .before .before .before .before .before .before .before .before .before .before .before .before .before .before .before .before .before .before .before .args in

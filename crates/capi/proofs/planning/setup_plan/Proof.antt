@@ -1,18 +1,10 @@
-use lib.ListN.{length}
-use mathlib.Core.Path.{_≡_, refl, sym, ap, _∙_}
-use native.Mathlib.Omega.{arith}
-use Prim.Native.Nat.{ℕ, _+_, _≤_}
-use Rattle.capi.specs.PlanningLaws.{plan-20, plan-10, plan-given}
 use borrow.Author.Needs.{needs}
+use lib.ListN.{length}
+use mathlib.Core.Path.{_≡_}
+use Rattle.capi.specs.PlanningLaws.{plan-10, plan-20, plan-given}
 use Rattle.capi.proofs.planning.setup_plan.Statement.{statement}
 use Rattle.capi.proofs.planning.setup_plan.Tie as tie
-use Rattle.capi.proofs.planning.setup_plan.Reads as reads
-use Rattle.capi.proofs.planning.setup_plan.Lts as lts
-use Rattle.capi.proofs.encoding.encode_plan.Reads as encode-plan-reads
-use Rattle.capi.proofs.encoding.parameters_at.Reads as parameters-at-reads
-use Rattle.tree.proofs.planning.plan.Reads as plan-reads
 
--- src/planning.rt:36:9
 -- the arrays of a plan by value have their lengths
 gates-long : (c : tie.After-plan) → length (c .plan .result .plan .gates) ≡ 384
 gates-long c = search needs
@@ -25,29 +17,23 @@ returns c =
     let a = c .before .before .before .before .args in
     plan-20 (a .parameters .now) (a .gates .now) (a .plan .now) (c .if1 .taken)
 
--- src/planning.rt:39:9
 returns-2 : tie.Need-returns-2
 returns-2 c =
     let a = c .before .before .before .before .before .args in
     plan-10 (a .parameters .now) (a .gates .now) (a .plan .now) (c .before .if1 .left) (c .if2 .taken)
 
--- src/planning.rt:41:40
 parameters-at-requires : tie.Need-parameters-at-requires
 parameters-at-requires c κs = search needs
 
--- src/planning.rt:41:9
 plan-requires : tie.Need-plan-requires
 plan-requires c κs = search needs
 
--- src/planning.rt:42:5
 encode-plan-requires : tie.Need-encode-plan-requires
 encode-plan-requires c κs = search needs
 
--- src/planning.rt:30:1
 same-length : tie.Need-same-length
 same-length c = search needs
 
--- src/planning.rt:30:1
 returns-3 : tie.Need-returns-3
 returns-3 c =
     let a = c .before .before .before .before .before .before .before .before .before .before .before .args in

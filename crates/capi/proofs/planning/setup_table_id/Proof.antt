@@ -1,39 +1,27 @@
-use mathlib.Core.Path.{_≡_, refl, sym, ap, _∙_}
-use Prim.Native.Nat.{ℕ}
+use borrow.Author.Needs.{needs}
+use mathlib.Core.Path.{_∙_, _≡_, ap}
 use Rattle.tree.specs.Plan.{tableIdAnswer}
 use Rattle.tree.specs.declared.plan.TableId.{TableId}
 use Rattle.capi.specs.Encoding.{planOf}
 use Rattle.capi.specs.Planning.{handLeft, handNumber, idWords}
-use borrow.Author.Needs.{needs}
 use Rattle.capi.proofs.planning.setup_table_id.Statement.{statement}
 use Rattle.capi.proofs.planning.setup_table_id.Tie as tie
-use Rattle.capi.proofs.planning.setup_table_id.Reads as reads
-use Rattle.capi.proofs.planning.setup_table_id.Lts as lts
-use Rattle.capi.proofs.encoding.decode_plan.Reads as decode-plan-reads
-use Rattle.capi.proofs.planning.hand_unless.Reads as hand-unless-reads
-use Rattle.tree.proofs.plan.Plan.table_id.Reads as table-id-reads
 
--- src/planning.rt:81:14
 decode-plan-requires : tie.Need-decode-plan-requires
 decode-plan-requires c κs = search needs
 
--- src/planning.rt:81:9
 table-id-requires : tie.Need-table-id-requires
 table-id-requires c κs = search needs
 
--- src/planning.rt:83:28
 slice-aggregate-hand-unless : tie.Need-slice-aggregate-hand-unless
 slice-aggregate-hand-unless c = search needs
 
--- src/planning.rt:83:5
 hand-unless-requires : tie.Need-hand-unless-requires
 hand-unless-requires c κs = search needs
 
--- src/planning.rt:76:1
 same-length : tie.Need-same-length
 same-length c = search needs
 
--- src/planning.rt:76:1
 returns : tie.Need-returns
 returns c =
     let a = c .before .before .before .before .before .before .before .before .before .args in

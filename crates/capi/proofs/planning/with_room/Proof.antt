@@ -1,18 +1,13 @@
+use borrow.Author.Tests.{eq-eqb, le-leb, le-ltb, lt-leb, lt-ltb, ne-eqb}
 use Rattle.capi.specs.Planning.{withRoom}
-use borrow.Author.Tests.{lt-ltb, le-ltb, le-leb, lt-leb, eq-eqb, ne-eqb}
-use mathlib.Core.Path.{sym, _∙_}
 use Rattle.capi.proofs.planning.with_room.Statement.{statement}
 use Rattle.capi.proofs.planning.with_room.Tie as tie
-use Rattle.capi.proofs.planning.with_room.Reads as reads
-use Rattle.capi.proofs.planning.with_room.Lts as lts
 
--- src/planning.rt:19:9
 returns : tie.Need-returns
 unfolding withRoom
 returns c =
     simp (eq-eqb _ _ (c .if1 .taken))
 
--- src/planning.rt:22:9
 returns-2 : tie.Need-returns-2
 unfolding withRoom
 returns-2 c =
@@ -22,7 +17,6 @@ returns-2 c =
       ne-eqb _ _ (c .before .if1 .left),
     )
 
--- src/planning.rt:15:1
 returns-3 : tie.Need-returns-3
 unfolding withRoom
 returns-3 c =

@@ -10,7 +10,7 @@ use borrow.Author.Tests.{lt-ltb, le-ltb}
 use native.Mathlib.Nat.{mul-le-mul}
 use lib.Dec.{ltb}
 use Rattle.base.specs.Pick.{pick}
-use Rattle.tree.specs.Lookup.{modeOf, widthOf}
+use Rattle.parameters.specs.Lookup.{modeOf, widthOf}
 use Rattle.columns.specs.PlanLaws.{Sound, sound}
 use borrow.Author.Needs.{needs}
 use Rattle.columns.proofs.intake.rooms_of.Statement.{statement}

@@ -7,23 +7,19 @@ use Prim.Native.Nat.{ℕ, suc, _+_, _-_, _*_, _<_, _≤_}
 use lib.ListN.{length, getD, take, drop}
 use mathlib.Core.List.{List}
 use mathlib.Core.Logic.{_≢_}
-use Rattle.pieces.specs.Records.{cut, rowSize}
-use Rattle.pieces.specs.Rows.{rowFault}
-use Rattle.pieces.specs.RecordLaws.{going}
-use Rattle.pieces.specs.FaultLaws.{row-cut, row-fine}
 use Rattle.columns.proofs.Parts.{part-is, part-length}
-use Rattle.columns.proofs.RowLoop.{Writing, writing-begin, writing-next, writing-count, writing-marks, writing-lines}
+use Rattle.columns.proofs.RowLoop.{counting-front, Writing, writing-begin, writing-next, writing-lines}
 use Rattle.columns.proofs.rows.write_rows.Statement.{statement}
 use Rattle.columns.proofs.rows.write_rows.Tie as tie
 
 abbrev Inv-loop : tie.InvT-loop
-Inv-loop height trace count piece used₀ constants₀ bits steps row₀ i₀ used constants row i = Writing height trace count piece used₀ constants₀ bits steps used constants row i
+Inv-loop height trace count piece constants₀ bits steps row₀ i₀ constants row i = Writing height trace count piece constants₀ bits steps constants row i
 
 abbrev μ-loop : tie.MeasureT-loop
-μ-loop height trace count piece used₀ constants₀ bits steps row₀ i₀ used constants row i = length piece - i
+μ-loop height trace count piece constants₀ bits steps row₀ i₀ constants row i = length piece - i
 
 loop-holds : tie.Need-loop-holds Inv-loop μ-loop
-loop-holds c = let a = c .before .before .before .before .args in writing-begin (a .height) (a .trace) (a .count) (a .piece .now) (a .used .now) (a .constants .now) (a .gates .bits) (a .gates .steps)
+loop-holds c = let a = c .before .before .before .before .args in writing-begin (a .height) (a .trace) (a .count) (a .piece .now) (a .constants .now) (a .gates .bits) (a .gates .steps)
 
 -- what is known of the record at the front
 record Turn (many height trace row i : ℕ) (own steps piece : List ℕ) : Type 0 where
@@ -42,9 +38,8 @@ turn c =
     let many = a .gates .many in
     let ws = a .piece .now in
     let own : ℕ → ℕ = λ g. getD (a .gates .own) g 0 in
-    let bad : rowFault many own (a .trace) (l .row) cut ≢ 0 = λ z. omega (arith, z, row-cut many own (a .trace) (l .row)) in
-    let g = going rowSize (rowFault many own (a .trace)) (λ r _. suc r) ws (l .row) (l .i) (l .inv .left) (l .inv .rest) bad (l .inv .fine many own (s .pre .1 .1)) (c .loop-test .taken) in
-    let f = row-fine many own (a .trace) (l .row) (getD ws (l .i) 0) (getD ws (l .i + 1) 0) _ (g .good) in
+    let g = counting-front (a .count) ws (l .row) (l .i) (l .inv .at) many own (a .trace) (s .pre .1 .1) (c .loop-test .taken) in
+    let f = g .is in
     record {
       two = g .two;
       fits = g .fits;
@@ -108,12 +103,6 @@ write-row-requires c κs =
     let n = part-length (a .piece .now) (l .i + 2) (getD (a .piece .now) (l .i + 1) 0) (omega (arith, t .two, t .fits)) in
     ((s .pre .0 .0, s .pre .0 .1, t .short, omega (arith, t .line, n)), (t .room, omega (arith, s .pre .0 .3, l .inv .long)))
 
-mul-used : tie.Need-mul-used Inv-loop μ-loop
-mul-used c = omega (arith, turn (c .before .before .before .before .before .before .before), c .before .before .before .before .before .before .before .before .before .before .before .before .before .pre .0)
-
-element-write-used : tie.Need-element-write-used Inv-loop μ-loop
-element-write-used c = omega (arith, turn (c .before .before .before .before .before .before .before), c .before .before .before .before .before .before .before .before .before .before .before .before .before .pre .0)
-
 add-row : tie.Need-add-row Inv-loop μ-loop
 add-row c = omega (arith, turn (c .before .before .before .before .before .before .before), c .before .before .before .before .before .before .before .before .before .before .before .before .before .pre .0)
 
@@ -128,7 +117,7 @@ loop-again c =
     let t = turn (c .before .before .before .before .before .before .before) in
     let w = c .before .before .write-row in
     let e = part-is (a .piece .now) (l .i + 2) (getD (a .piece .now) (l .i + 1) 0) in
-    writing-next (a .height) (a .trace) (a .count) (a .piece .now) (a .used .now) (a .constants .now) (a .gates .bits) (a .gates .steps) (l .used) (l .constants) (l .row) (l .i) (l .inv)
+    writing-next (a .height) (a .trace) (a .count) (a .piece .now) (a .constants .now) (a .gates .bits) (a .gates .steps) (l .constants) (l .row) (l .i) (l .inv)
     (t .two) (t .fits) _ (w .kept .1 .1 .1 .1 .1 .1 .0) (λ path q. rw e at (w .ensures path q))
 
 same-length : tie.Need-same-length Inv-loop μ-loop
@@ -139,13 +128,8 @@ returns c =
     let s = c .before .before .before .before .before .before in
     let a = s .args in
     let l = c .before .loop in
-    let done : length (a .piece .now) ≤ l .i = c .loop-test .left in (
-      writing-count (a .height) (a .trace) (a .count) (a .piece .now) (a .used .now) (a .constants .now) (a .gates .bits) (a .gates .steps) (l .used) (l .constants) (l .row) (l .i) (l .inv) done,
-      (
-        writing-marks (a .height) (a .trace) (a .count) (a .piece .now) (a .used .now) (a .constants .now) (a .gates .bits) (a .gates .steps) (l .used) (l .constants) (l .row) (l .i) (l .inv) done,
-        λ path q. writing-lines (a .height) (a .trace) (a .count) (a .piece .now) (a .used .now) (a .constants .now) (a .gates .bits) (a .gates .steps) (l .used) (l .constants) (l .row) (l .i) (l .inv) done (a .gates .many) (λ (g : ℕ). getD (a .gates .own) g 0) path (s .pre .1 .1) q,
-      ),
-    )
+    let done : length (a .piece .now) ≤ l .i = c .loop-test .left in
+    λ path q. writing-lines (a .height) (a .trace) (a .count) (a .piece .now) (a .constants .now) (a .gates .bits) (a .gates .steps) (l .constants) (l .row) (l .i) (l .inv) done (a .gates .many) (λ (g : ℕ). getD (a .gates .own) g 0) path (s .pre .1 .1) q
 
 pub write-rows-spec : {M : Type 1} → statement M
 write-rows-spec =
@@ -170,8 +154,6 @@ write-rows-spec =
     part-write-row-start
     part-write-row-end
     write-row-requires
-    mul-used
-    element-write-used
     add-row
     loop-less
     loop-again

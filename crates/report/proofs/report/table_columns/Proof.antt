@@ -5,15 +5,15 @@ use native.Mathlib.Omega.{arith}
 use Prim.Native.Nat.{ℕ, _+_, _*_, _<_, _≤_}
 use lib.ListN.{length}
 use borrow.Author.Tests.{lt-ltb, le-ltb, le-leb, lt-leb}
-use Rattle.tree.specs.Lookup.{modeOf}
+use Rattle.parameters.specs.Lookup.{modeOf}
 use Rattle.columns.specs.PlanLaws.{Sound, sound}
 use borrow.Author.Needs.{needs}
 use Rattle.report.proofs.report.table_columns.Statement.{statement}
 use Rattle.report.proofs.report.table_columns.Tie as tie
 use Rattle.report.proofs.report.table_columns.Reads as reads
 use Rattle.report.proofs.report.table_columns.Lts as lts
-use Rattle.tree.proofs.lookup.LookupParameters.lookup_width.Reads as lookup-width-reads
-use Rattle.tree.proofs.lookup.LookupParameters.mode.Reads as mode-reads
+use Rattle.parameters.proofs.lookup.LookupParameters.lookup_width.Reads as lookup-width-reads
+use Rattle.parameters.proofs.lookup.LookupParameters.mode.Reads as mode-reads
 
 -- the plan is sound
 fine : (s : tie.Start) → Sound (s .args .plan)

@@ -13,7 +13,7 @@ use Rattle.tree.proofs.gates.factor_of.Statement.{statement}
 use Rattle.tree.proofs.gates.factor_of.Tie as tie
 
 sub-least : tie.Need-sub-least
-sub-least c = search needs
+sub-least c = omega arith
 
 power-above-requires : tie.Need-power-above-requires
 power-above-requires c κs = search needs

@@ -25,10 +25,10 @@ loop-holds c =
     (omega arith, wanted-begin (a .gates .now) (a .many) (λ h. getD (a .marks .now) h 0))
 
 mul-often : tie.Need-mul-often Inv-loop μ-loop
-mul-often c = search needs
+mul-often c = omega arith
 
 element-copy-out-often : tie.Need-element-copy-out-often Inv-loop μ-loop
-element-copy-out-often c = search needs
+element-copy-out-often c = omega arith
 
 wanted-of-requires : tie.Need-wanted-of-requires Inv-loop μ-loop
 wanted-of-requires c κs =
@@ -47,7 +47,7 @@ returns c =
     sym (l .inv .1 ∙ wanted-step gs (a .many) often (a .many - l .g) (l .g) (omega (arith, c .before .before .before .loop-test .taken)) ∙ pick-no (eqb (often (l .g)) (wanted gs (a .many) (l .g))) _ _ (ne-eqb _ _ (λ z. c .if1 .taken (z ∙ sym (c .before .wanted-of .ensures)))))
 
 add-g : tie.Need-add-g Inv-loop μ-loop
-add-g c = search needs
+add-g c = omega arith
 
 loop-less : tie.Need-loop-less Inv-loop μ-loop
 loop-less c = search needs

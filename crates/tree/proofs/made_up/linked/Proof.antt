@@ -24,7 +24,7 @@ linked-at-requires c κs =
     (c .loop-test .taken, c .before .before .pre)
 
 add-i : tie.Need-add-i Inv-loop μ-loop
-add-i c = search needs
+add-i c = omega arith
 
 loop-less : tie.Need-loop-less Inv-loop μ-loop
 loop-less c = search needs

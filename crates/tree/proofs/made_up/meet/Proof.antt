@@ -17,10 +17,10 @@ returns c =
     (sym (meet-far (a .extra) (a .gates .now) (a .many) (a .gate) (a .level) (walk (a .marks .now) (a .seen)) (c .if1 .taken)), omega arith)
 
 mul-if2 : tie.Need-mul-if2
-mul-if2 c = search needs
+mul-if2 c = omega arith
 
 element-copy-out-if2 : tie.Need-element-copy-out-if2
-element-copy-out-if2 c = search needs
+element-copy-out-if2 c = omega arith
 
 returns-2 : tie.Need-returns-2
 returns-2 c =
@@ -29,10 +29,10 @@ returns-2 c =
     (sym (meet-twice (a .extra) (a .gates .now) (a .many) (a .gate) (a .level) (walk (a .marks .now) (a .seen)) (c .before .before .if1 .left) (c .if2 .taken)), omega arith)
 
 mul-marks : tie.Need-mul-marks
-mul-marks c = search needs
+mul-marks c = omega arith
 
 element-write-marks : tie.Need-element-write-marks
-element-write-marks c = search needs
+element-write-marks c = omega arith
 
 degree-at-depth-requires : tie.Need-degree-at-depth-requires
 degree-at-depth-requires c κs =

@@ -1,7 +1,7 @@
 -- `made_up::wanted_of` meets its contract: its tests are the definition's.
 -- Assumes nothing.
-use borrow.Author.Needs.{needs}
 use borrow.Author.Tests.{eq-eqb, ne-eqb}
+use native.Mathlib.Omega.{arith}
 use Rattle.selector.specs.MadeUp.{wanted}
 use Rattle.tree.proofs.made_up.wanted_of.Statement.{statement}
 use Rattle.tree.proofs.made_up.wanted_of.Tie as tie
@@ -9,21 +9,21 @@ use Rattle.tree.proofs.made_up.wanted_of.Tie as tie
 returns : tie.Need-returns
 unfolding wanted
 returns c =
-    simp (eq-eqb _ _ (c .if1 .taken))
+    rw (eq-eqb _ _ (c .if1 .taken))
 
 mul-if2 : tie.Need-mul-if2
-mul-if2 c = search needs
+mul-if2 c = omega arith
 
 mul-if2-2 : tie.Need-mul-if2-2
-mul-if2-2 c = search needs
+mul-if2-2 c = omega arith
 
 shared-slice-read-if2 : tie.Need-shared-slice-read-if2
-shared-slice-read-if2 c = search needs
+shared-slice-read-if2 c = omega arith
 
 returns-2 : tie.Need-returns-2
 unfolding wanted
 returns-2 c =
-    simp (
+    rw (
       eq-eqb _ _ (c .if2 .taken),
       ne-eqb _ _ (c .before .before .if1 .left),
     )
@@ -31,7 +31,7 @@ returns-2 c =
 returns-3 : tie.Need-returns-3
 unfolding wanted
 returns-3 c =
-    simp (
+    rw (
       ne-eqb _ _ (c .if2 .left),
       ne-eqb _ _ (c .before .before .if1 .left),
     )

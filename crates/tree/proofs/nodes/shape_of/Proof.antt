@@ -1,12 +1,10 @@
 -- `nodes::shape_of` meets its contract: where the search leaves a tree, the pass lays it out and takes its stats.
 -- Assumes nothing.
 use borrow.Author.Needs.{needs}
-use mathlib.Core.Path.{_∙_, _≡_, ap, refl}
+use mathlib.Core.Path.{refl}
 use native.Mathlib.Omega.{arith}
-use Rattle.selector.specs.Search.{factor, planTree, treeD, treeF, treeK}
-use Rattle.selector.specs.Tree.{size}
-use Rattle.tree.proofs.NodesLaws.{degree-over-small, found, found-room, not-found}
-use Rattle.tree.specs.declared.nodes.Stats.{Stats}
+use Rattle.selector.specs.Search.{planTree}
+use Rattle.tree.proofs.NodesLaws.{found, found-room, laid-shape, laid-small, not-found}
 use Rattle.tree.proofs.nodes.shape_of.Statement.{statement}
 use Rattle.tree.proofs.nodes.shape_of.Tie as tie
 
@@ -37,25 +35,15 @@ factor-of-requires c κs =
     let r = c .before .before .before .before .compute-placement in
     let q = planTree (a .extra) (a .gates .now) (a .many) in
     let w = found (a .many) q (r .last .1 .0) (r .result) (r .ensures .0) (c .before .before .before .if1 .left) in
-    let y = c .lay .result in
-    let e = c .lay .ensures (w .tree) (w .whole) (w .shallow) in
-    let d : y .degree ≡ treeD (a .gates .now) (w .tree) = ap (λ (z : Stats). z .degree) (e .sums) ∙ omega arith in
-    omega (arith, d, w .shallow, degree-over-small (a .gates .now) (a .many) (a .extra) (s .pre) (w .tree) 0 (w .stood .listed))
+    laid-small (a .extra) (a .gates .now) (a .many) q _ _ w _ _ (c .lay .ensures (w .tree) (w .whole) (w .shallow)) (s .pre)
 
 returns-2 : tie.Need-returns-2
 returns-2 c =
-    let s = c .before .before .before .before .before .before .before .before in
-    let a = s .args in
+    let a = c .before .before .before .before .before .before .before .before .args in
     let r = c .before .before .before .before .before .compute-placement in
     let q = planTree (a .extra) (a .gates .now) (a .many) in
     let w = found (a .many) q (r .last .1 .0) (r .result) (r .ensures .0) (c .before .before .before .before .if1 .left) in
-    let y = c .before .lay .result in
-    let e = c .before .lay .ensures (w .tree) (w .whole) (w .shallow) in
-    let d : y .degree ≡ treeD (a .gates .now) (w .tree) = ap (λ (z : Stats). z .degree) (e .sums) ∙ omega arith in
-    let n : y .next ≡ size (w .tree) = ap (λ (z : Stats). z .next) (e .sums) ∙ omega arith in
-    let k : y .constants ≡ treeK (a .extra) (a .gates .now) (w .tree) = ap (λ (z : Stats). z .constants) (e .sums) ∙ omega arith in
-    let f : c .factor-of .result ≡ treeF (a .gates .now) (w .tree) = c .factor-of .ensures .0 ∙ ap factor d in
-    rw (w .is) (cc (e .nodes, n, d, k, f))
+    laid-shape (a .extra) (a .gates .now) (a .many) q _ _ w _ _ (c .before .lay .ensures (w .tree) (w .whole) (w .shallow)) _ (c .factor-of .ensures .0)
 
 pub shape-of-spec : {M : Type 1} → statement M
 shape-of-spec =

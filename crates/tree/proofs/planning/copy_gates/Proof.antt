@@ -6,7 +6,6 @@ use mathlib.Core.List.{_++_}
 use mathlib.Core.Path.{_∙_, _≡_, refl}
 use native.Mathlib.Omega.{arith}
 use Rattle.base.specs.Copies.{copy-end, copy-next}
-use Rattle.labels.specs.Labels.{kept}
 use Rattle.tree.proofs.planning.copy_gates.Statement.{statement}
 use Rattle.tree.proofs.planning.copy_gates.Tie as tie
 

@@ -6,7 +6,7 @@ use native.Mathlib.Omega.{arith}
 use Rattle.base.specs.Firsts.{first-found, first-none}
 use Rattle.selector.specs.FlatLaws.{one, two}
 use Rattle.selector.specs.RecordLaws.{words-fit}
-use Rattle.tree.specs.Parameters.{parametersNumber}
+use Rattle.parameters.specs.Parameters.{parametersNumber}
 use Rattle.tree.specs.Plan.{wordsNumber}
 use Rattle.tree.proofs.planning.words_number.Statement.{statement}
 use Rattle.tree.proofs.planning.words_number.Tie as tie

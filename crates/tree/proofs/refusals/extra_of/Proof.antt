@@ -6,11 +6,11 @@ use Rattle.tree.proofs.refusals.extra_of.Tie as tie
 
 returns : tie.Need-returns
 returns c =
-    simp (eq-eqb _ _ (c .if1 .taken))
+    rw (eq-eqb _ _ (c .if1 .taken))
 
 returns-2 : tie.Need-returns-2
 returns-2 c =
-    simp (ne-eqb _ _ (c .if1 .left))
+    rw (ne-eqb _ _ (c .if1 .left))
 
 pub extra-of-spec : {M : Type 1} → statement M
 extra-of-spec = tie.close (tie.spec returns returns-2)

@@ -11,7 +11,7 @@ use Rattle.tree.proofs.refusals.kinds_number.Tie as tie
 returns : tie.Need-returns
 unfolding kindsNumber
 returns c =
-    simp (eq-eqb _ _ (c .if1 .taken))
+    rw (eq-eqb _ _ (c .if1 .taken))
 
 some-kind-requires : tie.Need-some-kind-requires
 some-kind-requires c κs = search needs
@@ -20,7 +20,7 @@ returns-2 : tie.Need-returns-2
 unfolding kindsNumber
 returns-2 c =
     let a = c .before .before .before .before .args in
-    simp (
+    rw (
       sym (c .before .some-kind .ensures ∙ kind-all 0 (a .many) (a .gates .now)) ∙ c .if2 .taken,
       ne-eqb _ _ (c .before .before .if1 .left),
     )
@@ -32,7 +32,7 @@ returns-3 : tie.Need-returns-3
 unfolding kindsNumber
 returns-3 c =
     let a = c .before .before .before .before .before .before .args in
-    simp (
+    rw (
       sym (c .before .some-kind2 .ensures ∙ kind-all 3 (a .many) (a .gates .now)) ∙ c .if3 .taken,
       sym (c .before .before .before .some-kind .ensures ∙ kind-all 0 (a .many) (a .gates .now)) ∙ c .before .before .if2 .left,
       ne-eqb _ _ (c .before .before .before .before .if1 .left),
@@ -42,7 +42,7 @@ returns-4 : tie.Need-returns-4
 unfolding kindsNumber
 returns-4 c =
     let a = c .before .before .before .before .before .before .args in
-    simp (
+    rw (
       sym (c .before .some-kind2 .ensures ∙ kind-all 3 (a .many) (a .gates .now)) ∙ c .if3 .left,
       sym (c .before .before .before .some-kind .ensures ∙ kind-all 0 (a .many) (a .gates .now)) ∙ c .before .before .if2 .left,
       ne-eqb _ _ (c .before .before .before .before .if1 .left),

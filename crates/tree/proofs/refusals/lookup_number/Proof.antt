@@ -3,6 +3,7 @@
 use borrow.Author.Needs.{needs}
 use borrow.Author.Tests.{eq-eqb, ne-eqb}
 use mathlib.Core.Path.{_∙_, sym}
+use native.Mathlib.Omega.{arith}
 use Rattle.selector.specs.Refusals.{lookupNumber}
 use Rattle.tree.proofs.refusals.lookup_number.Statement.{statement}
 use Rattle.tree.proofs.refusals.lookup_number.Tie as tie
@@ -13,15 +14,15 @@ some-kind-requires c κs = search needs
 returns : tie.Need-returns
 unfolding lookupNumber
 returns c =
-    simp (sym (c .before .some-kind .ensures) ∙ c .if1 .taken)
+    rw (sym (c .before .some-kind .ensures) ∙ c .if1 .taken)
 
 shared-slice-read-first : tie.Need-shared-slice-read-first
-shared-slice-read-first c = search needs
+shared-slice-read-first c = omega arith
 
 returns-2 : tie.Need-returns-2
 unfolding lookupNumber
 returns-2 c =
-    simp (
+    rw (
       ne-eqb _ _ (c .if3 .taken),
       eq-eqb _ _ (c .before .if2 .taken),
       sym (c .before .before .before .before .some-kind .ensures) ∙ c .before .before .before .if1 .left,
@@ -30,7 +31,7 @@ returns-2 c =
 returns-3 : tie.Need-returns-3
 unfolding lookupNumber
 returns-3 c =
-    simp (
+    rw (
       eq-eqb _ _ (c .if4 .taken),
       eq-eqb _ _ (c .before .if3 .left),
       eq-eqb _ _ (c .before .before .if2 .taken),
@@ -40,7 +41,7 @@ returns-3 c =
 returns-4 : tie.Need-returns-4
 unfolding lookupNumber
 returns-4 c =
-    simp (
+    rw (
       ne-eqb _ _ (c .if4 .left),
       eq-eqb _ _ (c .before .if3 .left),
       eq-eqb _ _ (c .before .before .if2 .taken),
@@ -53,7 +54,7 @@ lists-lookup-requires c κs = search needs
 returns-5 : tie.Need-returns-5
 unfolding lookupNumber
 returns-5 c =
-    simp (
+    rw (
       eq-eqb _ _ (c .if6 .taken),
       sym (c .before .before .lists-lookup .ensures) ∙ c .before .if5 .taken,
       ne-eqb _ _ (c .before .before .before .if2 .left),
@@ -63,7 +64,7 @@ returns-5 c =
 returns-6 : tie.Need-returns-6
 unfolding lookupNumber
 returns-6 c =
-    simp (
+    rw (
       ne-eqb _ _ (c .if6 .left),
       sym (c .before .before .lists-lookup .ensures) ∙ c .before .if5 .taken,
       ne-eqb _ _ (c .before .before .before .if2 .left),
@@ -73,7 +74,7 @@ returns-6 c =
 returns-7 : tie.Need-returns-7
 unfolding lookupNumber
 returns-7 c =
-    simp (
+    rw (
       eq-eqb _ _ (c .if7 .taken),
       sym (c .before .before .lists-lookup .ensures) ∙ c .before .if5 .left,
       ne-eqb _ _ (c .before .before .before .if2 .left),
@@ -83,7 +84,7 @@ returns-7 c =
 returns-8 : tie.Need-returns-8
 unfolding lookupNumber
 returns-8 c =
-    simp (
+    rw (
       ne-eqb _ _ (c .if7 .left),
       sym (c .before .before .lists-lookup .ensures) ∙ c .before .if5 .left,
       ne-eqb _ _ (c .before .before .before .if2 .left),

@@ -10,49 +10,49 @@ returns : tie.Need-returns
 unfolding recordNumber
 returns c =
     let a = c .before .before .before .before .args in
-    simp (eq-eqb (a .kind) 0 (c .before .before .before .match .keys1), le-leb 1 (a .degree) (omega arith), le-leb (a .degree) 64 (omega arith), le-leb (a .constants) 16 (omega arith))
+    rw (eq-eqb (a .kind) 0 (c .before .before .before .match .keys1), le-leb 1 (a .degree) (omega arith), le-leb (a .degree) 64 (omega arith), le-leb (a .constants) 16 (omega arith))
 
 returns-2 : tie.Need-returns-2
 unfolding recordNumber
 returns-2 c =
     let a = c .before .before .before .before .args in
-    simp (eq-eqb (a .kind) 0 (c .before .before .before .match .keys1), le-leb 1 (a .degree) (omega arith), le-leb (a .degree) 64 (omega arith), lt-leb (a .constants) 16 (omega arith))
+    rw (eq-eqb (a .kind) 0 (c .before .before .before .match .keys1), le-leb 1 (a .degree) (omega arith), le-leb (a .degree) 64 (omega arith), lt-leb (a .constants) 16 (omega arith))
 
 returns-3 : tie.Need-returns-3
 unfolding recordNumber
 returns-3 c =
     let a = c .before .before .args in
-    simp (eq-eqb (a .kind) 0 (c .before .match .keys1), lt-leb 1 (a .degree) (omega arith))
+    rw (eq-eqb (a .kind) 0 (c .before .match .keys1), lt-leb 1 (a .degree) (omega arith))
 
 returns-4 : tie.Need-returns-4
 unfolding recordNumber
 returns-4 c =
     let a = c .before .before .before .args in
-    simp (eq-eqb (a .kind) 0 (c .before .before .match .keys1), le-leb 1 (a .degree) (omega arith), lt-leb (a .degree) 64 (omega arith))
+    rw (eq-eqb (a .kind) 0 (c .before .before .match .keys1), le-leb 1 (a .degree) (omega arith), lt-leb (a .degree) 64 (omega arith))
 
 returns-5 : tie.Need-returns-5
 unfolding recordNumber
 returns-5 c =
     let a = c .before .before .before .before .args in
-    simp (ne-eqb (a .kind) 0 (c .before .before .before .match .rest .1), le-leb (a .kind) 3 (omega arith), eq-eqb (a .degree) 0 (c .before .match2 .keys1), eq-eqb (a .constants) 0 (c .match3 .keys1))
+    rw (ne-eqb (a .kind) 0 (c .before .before .before .match .rest .1), le-leb (a .kind) 3 (omega arith), eq-eqb (a .degree) 0 (c .before .match2 .keys1), eq-eqb (a .constants) 0 (c .match3 .keys1))
 
 returns-6 : tie.Need-returns-6
 unfolding recordNumber
 returns-6 c =
     let a = c .before .before .before .before .args in
-    simp (ne-eqb (a .kind) 0 (c .before .before .before .match .rest .1), le-leb (a .kind) 3 (omega arith), eq-eqb (a .degree) 0 (c .before .match2 .keys1), ne-eqb (a .constants) 0 (c .match3 .rest .1))
+    rw (ne-eqb (a .kind) 0 (c .before .before .before .match .rest .1), le-leb (a .kind) 3 (omega arith), eq-eqb (a .degree) 0 (c .before .match2 .keys1), ne-eqb (a .constants) 0 (c .match3 .rest .1))
 
 returns-7 : tie.Need-returns-7
 unfolding recordNumber
 returns-7 c =
     let a = c .before .before .before .args in
-    simp (ne-eqb (a .kind) 0 (c .before .before .match .rest .1), le-leb (a .kind) 3 (omega arith), ne-eqb (a .degree) 0 (c .match2 .rest .1))
+    rw (ne-eqb (a .kind) 0 (c .before .before .match .rest .1), le-leb (a .kind) 3 (omega arith), ne-eqb (a .degree) 0 (c .match2 .rest .1))
 
 returns-8 : tie.Need-returns-8
 unfolding recordNumber
 returns-8 c =
     let a = c .before .before .args in
-    simp (ne-eqb (a .kind) 0 (c .before .match .rest .1), lt-leb (a .kind) 3 (omega arith))
+    rw (ne-eqb (a .kind) 0 (c .before .match .rest .1), lt-leb (a .kind) 3 (omega arith))
 
 pub record-number-spec : {M : Type 1} → statement M
 record-number-spec =

@@ -23,13 +23,13 @@ returns-2 c =
     sym (stand-full (a .gates .now) (a .gate) (a .depth) (a .offer .extra) (a .offer .target) (a .offer .bound) (omega (arith, c .before .before .constants-of .ensures)))
 
 mul-if3 : tie.Need-mul-if3
-mul-if3 c = search needs
+mul-if3 c = omega arith
 
 mul-if3-2 : tie.Need-mul-if3-2
-mul-if3-2 c = search needs
+mul-if3-2 c = omega arith
 
 shared-slice-read-if3 : tie.Need-shared-slice-read-if3
-shared-slice-read-if3 c = search needs
+shared-slice-read-if3 c = omega arith
 
 greater-requires : tie.Need-greater-requires
 greater-requires c κs = search needs
@@ -45,16 +45,16 @@ returns-4 c =
     sym (stand-deep (a .gates .now) (a .gate) (a .depth) (a .offer .extra) (a .offer .target) (a .offer .bound) (c .before .before .if3 .left) (c .if4 .taken))
 
 mul-result : tie.Need-mul-result
-mul-result c = search needs
+mul-result c = omega arith
 
 add-result : tie.Need-add-result
-add-result c = search needs
+add-result c = omega arith
 
 mul-result-2 : tie.Need-mul-result-2
-mul-result-2 c = search needs
+mul-result-2 c = omega arith
 
 shared-slice-read-result : tie.Need-shared-slice-read-result
-shared-slice-read-result c = search needs
+shared-slice-read-result c = omega arith
 
 returns-5 : tie.Need-returns-5
 returns-5 c =

@@ -6,7 +6,6 @@ use borrow.Author.Needs.{needs}
 use lib.ListN.{getD}
 use mathlib.Core.Path.{_∙_, ap, sym}
 use native.Mathlib.Omega.{arith}
-use Rattle.labels.specs.Labels.{kept}
 use Rattle.selector.specs.Flat.{Placed, levels}
 use Rattle.selector.specs.FlatLaws.{refused}
 use Rattle.selector.specs.Search.{mayStand}
@@ -28,7 +27,7 @@ returns c =
     (stands (a .extra) (a .target) (a .bound) (a .gates .now) (a .many) (a .base) (a .order .now) (a .nodes .now) (p .0 .0) (p .0 .1) (p .0 .2) (p .0 .3) (p .1 .0) (p .1 .1) _ _ (grow-none (mayStand (a .extra) (a .gates .now) (a .target) (a .bound)) (a .gates .now) (a .many) (a .base) (p .0 .0) (a .order .now) (p .0 .2) (p .1 .0) (a .nodes .now) (a .nodes .now) (c .if1 .taken)), p .0 .3)
 
 mul-gate : tie.Need-mul-gate Inv-loop μ-loop
-mul-gate c = search needs
+mul-gate c = omega arith
 
 element-copy-out-gate : tie.Need-element-copy-out-gate Inv-loop μ-loop
 element-copy-out-gate c = omega (arith, c .if1 .left)
@@ -44,7 +43,7 @@ put-node-requires : tie.Need-put-node-requires Inv-loop μ-loop
 put-node-requires c κs = search needs
 
 add-i : tie.Need-add-i Inv-loop μ-loop
-add-i c = search needs
+add-i c = omega arith
 
 loop-holds : tie.Need-loop-holds Inv-loop μ-loop
 loop-holds c =
@@ -54,10 +53,10 @@ loop-holds c =
     grow-begin (mayStand (a .extra) (a .gates .now) (a .target) (a .bound)) (a .gates .now) (a .many) (a .base) (p .0 .0) (a .order .now) (p .0 .2) (p .1 .0) _ (a .nodes .now) (c .before .before .before .before .before .if1 .left) (p .0 .3) (c .put-node .ensures)
 
 mul-t24 : tie.Need-mul-t24 Inv-loop μ-loop
-mul-t24 c = search needs
+mul-t24 c = omega arith
 
 element-copy-out-t27 : tie.Need-element-copy-out-t27 Inv-loop μ-loop
-element-copy-out-t27 c = search needs
+element-copy-out-t27 c = omega arith
 
 try-add-gate-requires : tie.Need-try-add-gate-requires Inv-loop μ-loop
 try-add-gate-requires c κs =
@@ -82,7 +81,7 @@ returns-2 c =
     )
 
 add-i-2 : tie.Need-add-i-2 Inv-loop μ-loop
-add-i-2 c = search needs
+add-i-2 c = omega arith
 
 loop-less : tie.Need-loop-less Inv-loop μ-loop
 loop-less c = search needs

@@ -52,7 +52,7 @@ loop-holds c =
     let p = s .pre in
     let r = c .before .before .before .arrange in (
       omega arith,
-      c .factor-of .ensures .1,
+      omega (arith, c .factor-of .ensures .1),
       p .1,
       search-begin (a .gates .now) (a .many) (a .extra) _ (c .factor-of .ensures .0 ∙ ap factor (r .ensures .1 .0)),
     )
@@ -94,7 +94,7 @@ mul-target c =
     omega (arith, l .inv .1, cap-all (l .k))
 
 sub-k : tie.Need-sub-k Inv-loop μ-loop
-sub-k c = search needs
+sub-k c = omega arith
 
 loop-less : tie.Need-loop-less Inv-loop μ-loop
 loop-less c = search needs

@@ -2,27 +2,28 @@
 -- Assumes nothing.
 use borrow.Author.Needs.{needs}
 use mathlib.Core.Path.{_∙_}
+use native.Mathlib.Omega.{arith}
 use Rattle.selector.specs.Flat.{splitFlat}
 use Rattle.tree.proofs.search.split.Statement.{statement}
 use Rattle.tree.proofs.search.split.Tie as tie
 
 mul-old : tie.Need-mul-old
-mul-old c = search needs
+mul-old c = omega arith
 
 add-old : tie.Need-add-old
-add-old c = search needs
+add-old c = omega arith
 
 mul-old-2 : tie.Need-mul-old-2
-mul-old-2 c = search needs
+mul-old-2 c = omega arith
 
 element-copy-out-old : tie.Need-element-copy-out-old
-element-copy-out-old c = search needs
+element-copy-out-old c = omega arith
 
 put-node-requires : tie.Need-put-node-requires
 put-node-requires c κs = search needs
 
 add-next : tie.Need-add-next
-add-next c = search needs
+add-next c = omega arith
 
 put-node-requires-2 : tie.Need-put-node-requires-2
 put-node-requires-2 c κs = search needs

@@ -91,14 +91,27 @@ returns-2 c =
     let k = rows-refused s ws b _ (own (c .before .before)) (c .before .if3 .taken) in
     (c .refused2 .ensures ∙ k .0, k .1)
 
+mark-rows-requires : tie.Need-mark-rows-requires
+mark-rows-requires c κs =
+    let w = fine (c .before .before .before .before .before .before .before .before .before .before .before) in
+    let g = c .before .before .before .before .before .before .gate-rows in
+    record {
+      many = g .result .many;
+      own = λ k. getD (g .result .own) k 0;
+      trace = c .before .before .before .before .before .before .before .before .before .before .before .before .before .before .before .args .self .plan .trace;
+      few = omega (arith, w .few-gates, g .ensures .many-is);
+      long = w .ranges .long;
+      no-fault = sym (c .before .before .before .rows-fault .ensures) ∙ c .before .before .if3 .left;
+    }
+
 write-rows-requires : tie.Need-write-rows-requires
 write-rows-requires c κs =
-    let q = c .before .before .before .before .before .before .before .before .before .before .before .before .before .before .before .before .args .self .plan in
-    let w = fine (c .before .before .before .before .before .before .before .before .before .before .before .before) in
-    let g = c .before .before .before .before .before .before .before .gate-rows .ensures in
-    let room : q .constants * q .trace ≤ length (c .before .before .before .before .before .before .before .before .before .before .before .before .before .before .before .before .args .constants .now) = omega (arith, c .before .before .before .before .before .before .before .before .if2 .left, c .before .before .before .before .before .before .before .before .before .before .rooms-of .ensures .constants-are) in (
+    let q = c .before .before .before .before .before .before .before .before .before .before .before .before .before .before .before .before .before .args .self .plan in
+    let w = fine (c .before .before .before .before .before .before .before .before .before .before .before .before .before) in
+    let g = c .before .before .before .before .before .before .before .before .gate-rows .ensures in
+    let room : q .constants * q .trace ≤ length (c .before .before .before .before .before .before .before .before .before .before .before .before .before .before .before .before .before .args .constants .now) = omega (arith, c .before .before .before .before .before .before .before .before .before .if2 .left, c .before .before .before .before .before .before .before .before .before .before .before .rooms-of .ensures .constants-are) in (
       (w .ranges .long, omega (arith, w .height), omega (arith, w .few-gates, g .many-is), room),
-      (rw (g .many-is) (g .room), sym (c .before .before .before .before .rows-fault .ensures) ∙ c .before .before .before .if3 .left),
+      (rw (g .many-is) (g .room), sym (c .before .before .before .before .before .rows-fault .ensures) ∙ c .before .before .before .before .if3 .left),
     )
 
 same-length : tie.Need-same-length
@@ -107,13 +120,14 @@ same-length c = search needs
 returns-3 : tie.Need-returns-3
 unfolding rowsWritten
 returns-3 c =
-    let s = c .before .before .before .before .before .before .before .before .before .before .before .before .before .before .before .before .before .before .before .args .self in
-    let ws = c .before .before .before .before .before .before .before .before .before .before .before .before .before .before .before .before .before .before .before .args .piece .now in
-    let b = c .before .before .before .before .before .before .before .before .before .before .before .before .before .before .before .before .before .before .before .args .constants .now in
-    let k = rows-taken s ws b (own (c .before .before .before .before .before .before .before) ∙ c .before .before .before .before .before .before .if3 .left) in
-    let g = c .before .before .before .before .before .before .before .before .before .before .gate-rows .ensures in
+    let s = c .before .before .before .before .before .before .before .before .before .before .before .before .before .before .before .before .before .before .before .before .args .self in
+    let ws = c .before .before .before .before .before .before .before .before .before .before .before .before .before .before .before .before .before .before .before .before .args .piece .now in
+    let b = c .before .before .before .before .before .before .before .before .before .before .before .before .before .before .before .before .before .before .before .before .args .constants .now in
+    let k = rows-taken s ws b (own (c .before .before .before .before .before .before .before .before) ∙ c .before .before .before .before .before .before .before .if3 .left) in
+    let g = c .before .before .before .before .before .before .before .before .before .before .before .gate-rows .ensures in
     let w = c .before .before .write-rows .ensures in
-    (rw (w .0, w .1 .0) (k .0), w .1 .1 (planPath (s .plan)) (rw (g .many-is) (g .spells-paths)) ∙ k .1)
+    let m = c .before .before .before .before .mark-rows .ensures in
+    (rw (m .0, m .1) (k .0), w (planPath (s .plan)) (rw (g .many-is) (g .spells-paths)) ∙ k .1)
 
 refused-requires-3 : tie.Need-refused-requires-3
 refused-requires-3 c κs = search needs
@@ -138,6 +152,7 @@ rows-spec =
     rows-fault-requires
     refused-requires-2
     returns-2
+    mark-rows-requires
     write-rows-requires
     same-length
     returns-3

@@ -8,7 +8,7 @@ use lib.ListN.{length}
 use borrow.Author.Tests.{eq-eqb, ne-eqb, le-leb, lt-leb, lt-ltb, le-ltb}
 use native.Mathlib.Nat.{mul-le-mul}
 use Rattle.tree.specs.Plan.{planFault}
-use Rattle.tree.specs.Lookup.{modeOf}
+use Rattle.parameters.specs.Lookup.{modeOf}
 use Rattle.pieces.specs.Setting.{stands}
 use Rattle.columns.specs.PlanLaws.{Sound, sound}
 use borrow.Author.Needs.{needs}

@@ -19,7 +19,7 @@ use lib.Dec.{ltb}
 use borrow.Author.Tests.{lt-ltb, le-ltb}
 use native.Mathlib.Nat.{add-zero}
 use Rattle.base.specs.Pick.{pick}
-use Rattle.tree.specs.Lookup.{modeOf, widthOf}
+use Rattle.parameters.specs.Lookup.{modeOf, widthOf}
 use Rattle.pieces.specs.Setting.{State, tableRoom}
 use Rattle.pieces.specs.Records.{Read, tablesOf}
 use Rattle.pieces.specs.Writing.{putLines}

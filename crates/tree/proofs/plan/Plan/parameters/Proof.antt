@@ -2,7 +2,7 @@
 -- Assumes nothing.
 use borrow.Author.Needs.{needs}
 use mathlib.Core.Path.{_∙_, ap, refl}
-use Rattle.tree.specs.Lookup.{flagOf}
+use Rattle.parameters.specs.Lookup.{flagOf}
 use Rattle.tree.proofs.plan.Plan.parameters.Statement.{statement}
 use Rattle.tree.proofs.plan.Plan.parameters.Tie as tie
 

@@ -27,7 +27,7 @@ returns-2 c =
     let s = c .before .before .before .before .args .self in
     let f : planFault s ≡ 0 = sym (c .before .before .before .fault .ensures) ∙ c .before .before .if1 .left in
     let g = c .before .before .before .before .args .gate in
-    rw (eq-eqb (planFault s) 0 f, le-ltb g (s .«gate_count») (c .if2 .taken))
+    rw (eq-eqb (planFault s) 0 f, le-ltb g (s .«gate_count») (omega (arith, c .if2 .taken)))
 
 output-placement-requires : tie.Need-output-placement-requires
 output-placement-requires c κs =

@@ -4,7 +4,7 @@ use borrow.Author.Needs.{needs}
 use borrow.Author.Tests.{eq-eqb, ne-eqb}
 use mathlib.Core.Path.{_∙_, refl, sym}
 use Rattle.tree.proofs.PlanCodeLaws.{path-fine, path-refused}
-use Rattle.tree.specs.Lookup.{modeOf}
+use Rattle.parameters.specs.Lookup.{modeOf}
 use Rattle.tree.specs.Plan.{planFault, tableIdAnswer}
 use Rattle.tree.proofs.plan.Plan.table_id.Statement.{statement}
 use Rattle.tree.proofs.plan.Plan.table_id.Tie as tie

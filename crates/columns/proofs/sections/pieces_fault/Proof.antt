@@ -1,0 +1,109 @@
+-- `columns::sections::pieces_fault` meets its contract: the first fault of rows, S words, cells and tables, in this order.
+-- Assumes nothing.
+use borrow.Author.Needs.{needs}
+use mathlib.Core.Path.{_≡_, sym, ap, _∙_}
+use native.Mathlib.Omega.{arith}
+use native.Mathlib.Nat.{mul-le-mul}
+use Prim.Native.Nat.{ℕ, _*_, _≤_, _<_}
+use lib.ListN.{length, getD}
+use lib.Dec.{ltb}
+use Rattle.base.specs.Firsts.{orNumber, first-none, first-found}
+use Rattle.selector.specs.Gates.{constantsOf}
+use Rattle.parameters.specs.Lookup.{modeOf, widthOf}
+use Rattle.tree.specs.Plan.{gatesGiven, planExtra}
+use Rattle.pieces.specs.Records.{rowsOf, tablesOf}
+use Rattle.pieces.specs.Rows.{rowsFault}
+use Rattle.pieces.specs.Tables.{tablesFault}
+use Rattle.pieces.specs.FaultLaws.{rows-own-same}
+use Rattle.columns.specs.Stacked.{stack}
+use Rattle.columns.specs.PlanLaws.{Sound, sound}
+use Rattle.columns.proofs.sections.pieces_fault.Statement.{statement}
+use Rattle.columns.proofs.sections.pieces_fault.Tie as tie
+
+gate-rows-requires : tie.Need-gate-rows-requires
+gate-rows-requires c κs = search needs
+
+fine : (s : tie.Start) → Sound (s .args .plan)
+fine s =
+    let l : length (s .args .plan .gates) ≡ 384 = search needs in
+    sound (s .args .plan) (s .pre) (omega arith)
+
+rows-fault-requires : tie.Need-rows-fault-requires
+rows-fault-requires c κs =
+    let w = fine (c .before .before .before .before .before .before .before) in
+    (omega (arith, w .few-gates, c .before .before .gate-rows .ensures .many-is), omega arith, w .ranges .long)
+
+-- the rows' number: the gates' constants are the plan's
+in-rows : (c : tie.After-rows-fault) → let a = c .before .before .before .before .before .before .before .before .args in
+    c .rows-fault .result ≡ rowsFault (a .plan .«gate_count») (constantsOf (planExtra (a .plan)) (gatesGiven (a .plan))) (a .plan .trace) 0 (rowsOf (a .rows .now))
+in-rows c =
+    let a = c .before .before .before .before .before .before .before .before .args in
+    let g = c .before .before .before .gate-rows .ensures in
+    let e = rw (g .many-is) at (c .rows-fault .ensures) in
+    e ∙ rows-own-same (a .plan .«gate_count») _ (constantsOf (planExtra (a .plan)) (gatesGiven (a .plan))) (a .plan .trace) 0 (rowsOf (a .rows .now)) (g .own-is)
+
+returns : tie.Need-returns
+returns c =
+    let e = in-rows (c .before) in
+    e ∙ sym (first-found _ _ (λ z. c .if1 .taken (e ∙ z)))
+
+mul-s-words-fault : tie.Need-mul-s-words-fault
+mul-s-words-fault c = let w = fine (c .before .before .before .before .before .before .before .before .before .before) in omega (arith, mul-le-mul (w .special) (w .ranges .long))
+
+s-words-fault-requires : tie.Need-s-words-fault-requires
+s-words-fault-requires c κs = let w = fine (c .before .before .before .before .before .before .before .before .before .before) in (omega arith, omega (arith, mul-le-mul (w .special) (w .ranges .long)))
+
+returns-2 : tie.Need-returns-2
+returns-2 c =
+    let e = c .before .s-words-fault .ensures in
+    e ∙ sym (first-none _ _ (sym (in-rows (c .before .before .before .before)) ∙ c .before .before .before .if1 .left) ∙ first-found _ _ (λ z. c .if2 .taken (e ∙ z)))
+
+mul-cells-fault : tie.Need-mul-cells-fault
+mul-cells-fault c = let w = fine (c .before .before .before .before .before .before .before .before .before .before .before .before .before) in omega (arith, mul-le-mul (w .ranges .columns) (w .ranges .long))
+
+cells-fault-requires : tie.Need-cells-fault-requires
+cells-fault-requires c κs = let w = fine (c .before .before .before .before .before .before .before .before .before .before .before .before .before) in (omega arith, omega (arith, mul-le-mul (w .ranges .columns) (w .ranges .long)))
+
+returns-3 : tie.Need-returns-3
+returns-3 c =
+    let e = c .before .cells-fault .ensures in
+    e ∙ sym (first-none _ _ (sym (in-rows (c .before .before .before .before .before .before .before)) ∙ c .before .before .before .before .before .before .if1 .left) ∙ first-none _ _ (sym (c .before .before .before .before .s-words-fault .ensures) ∙ c .before .before .before .if2 .left) ∙ first-found _ _ (λ z. c .if3 .taken (e ∙ z)))
+
+lookup-width-requires : tie.Need-lookup-width-requires
+lookup-width-requires c κs = search needs
+
+mode-requires : tie.Need-mode-requires
+mode-requires c κs = search needs
+
+tables-fault-requires : tie.Need-tables-fault-requires
+tables-fault-requires c κs =
+    let w = fine (c .before .before .before .before .before .before .before .before .before .before .before .before .before .before .before .before .before) in
+    (omega (arith, w .width, c .before .lookup-width .ensures), omega arith, omega arith, w .ranges .long)
+
+-- the tables' number: mode and width are the plan's
+in-tables : (c : tie.After-tables-fault) → let a = c .before .before .before .before .before .before .before .before .before .before .before .before .before .before .before .before .before .before .args in
+    c .tables-fault .result ≡ tablesFault (ltb 0 (modeOf (a .plan .lookup))) (widthOf (a .plan .lookup)) (a .plan .trace) (stack 0 0) (tablesOf (a .tables .now))
+in-tables c = c .tables-fault .ensures ∙ rw (c .before .mode .ensures, c .before .before .lookup-width .ensures)
+
+returns-4 : tie.Need-returns-4
+returns-4 c =
+    let e = in-tables c in
+    e ∙ sym (first-none _ _ (sym (in-rows (c .before .before .before .before .before .before .before .before .before .before)) ∙ c .before .before .before .before .before .before .before .before .before .if1 .left) ∙ first-none _ _ (sym (c .before .before .before .before .before .before .before .s-words-fault .ensures) ∙ c .before .before .before .before .before .before .if2 .left) ∙ first-none _ _ (sym (c .before .before .before .before .cells-fault .ensures) ∙ c .before .before .before .if3 .left))
+
+pub pieces-fault-spec : {M : Type 1} → statement M
+pieces-fault-spec =
+    tie.close
+    (tie.spec
+    gate-rows-requires
+    rows-fault-requires
+    returns
+    mul-s-words-fault
+    s-words-fault-requires
+    returns-2
+    mul-cells-fault
+    cells-fault-requires
+    returns-3
+    lookup-width-requires
+    mode-requires
+    tables-fault-requires
+    returns-4)

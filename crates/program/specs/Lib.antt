@@ -1,0 +1,3 @@
+-- 01, 'Listing': the program `setup`.
+pub mod Program
+pub mod ProgramLaws

@@ -1,0 +1,82 @@
+-- `stage::listed::run_parts` meets its contract: each section's words are those at its place.
+-- Assumes nothing.
+use borrow.Author.Needs.{needs}
+use mathlib.Core.Path.{_≡_, ap, _∙_}
+use mathlib.Core.List.{List}
+use Prim.Native.Nat.{ℕ}
+use lib.ListN.{length}
+use Rattle.columns.specs.Intake.{storeOf}
+use Rattle.listing.specs.Ends.{wordsAt}
+use Rattle.stage.specs.Listed.{parametersFrom, words-same}
+use Rattle.stage.proofs.listed.run_parts.Statement.{statement}
+use Rattle.stage.proofs.listed.run_parts.Tie as tie
+
+part-of-requires : tie.Need-part-of-requires
+part-of-requires c κs = search needs
+
+parameters-from-requires : tie.Need-parameters-from-requires
+parameters-from-requires c κs = ap length (c .part-of .ensures) ∙ c .before .before .before .before .before .before .before .before .before .before .before .before .pre
+
+part-of-requires-2 : tie.Need-part-of-requires-2
+part-of-requires-2 c κs = search needs
+
+part-of-requires-3 : tie.Need-part-of-requires-3
+part-of-requires-3 c κs = search needs
+
+part-of-requires-4 : tie.Need-part-of-requires-4
+part-of-requires-4 c κs = search needs
+
+part-of-requires-5 : tie.Need-part-of-requires-5
+part-of-requires-5 c κs = search needs
+
+part-of-requires-6 : tie.Need-part-of-requires-6
+part-of-requires-6 c κs = search needs
+
+run-sections-requires : tie.Need-run-sections-requires
+run-sections-requires c κs = search needs
+
+same-length : tie.Need-same-length
+same-length c = search needs
+
+same-length-2 : tie.Need-same-length-2
+same-length-2 c = search needs
+
+same-length-3 : tie.Need-same-length-3
+same-length-3 c = search needs
+
+same-length-4 : tie.Need-same-length-4
+same-length-4 c = search needs
+
+returns : tie.Need-returns
+returns c =
+    let a = c .before .before .before .before .before .before .before .before .before .before .before .before .before .before .before .before .before .before .before .before .before .before .before .before .before .before .before .before .before .before .before .args in
+    let w = c .before .before .before .before .before .before .before .before .run-sections .ensures in
+    let k =
+    words-same (wordsAt (a .words .now) (a .sections)) (storeOf (a .constants .now) (a .copies .now) (a .scratch .now) (a .tables .now)) (c .before .before .before .before .before .before .before .before .before .before .before .before .before .before .before .before .before .before .parameters-from .result)
+    (c .before .before .before .before .before .before .before .before .before .before .before .before .before .before .before .before .before .part-of2 .result .now) (c .before .before .before .before .before .before .before .before .before .before .before .before .before .before .before .before .part-of3 .result .now) (c .before .before .before .before .before .before .before .before .before .before .before .before .before .before .before .part-of4 .result .now) (c .before .before .before .before .before .before .before .before .before .before .before .before .before .before .part-of5 .result .now) (c .before .before .before .before .before .before .before .before .before .before .before .before .before .part-of6 .result .now)
+    (c .before .before .before .before .before .before .before .before .before .before .before .before .before .before .before .before .before .before .parameters-from .ensures ∙ ap parametersFrom (c .before .before .before .before .before .before .before .before .before .before .before .before .before .before .before .before .before .before .before .part-of .ensures))
+    (c .before .before .before .before .before .before .before .before .before .before .before .before .before .before .before .before .before .part-of2 .ensures)
+    (c .before .before .before .before .before .before .before .before .before .before .before .before .before .before .before .before .part-of3 .ensures)
+    (c .before .before .before .before .before .before .before .before .before .before .before .before .before .before .before .part-of4 .ensures)
+    (c .before .before .before .before .before .before .before .before .before .before .before .before .before .before .part-of5 .ensures)
+    (c .before .before .before .before .before .before .before .before .before .before .before .before .before .part-of6 .ensures)
+    in
+    (w .0 ∙ k .0, w .1 ∙ k .1)
+
+pub run-parts-spec : {M : Type 1} → statement M
+run-parts-spec =
+    tie.close
+    (tie.spec
+    part-of-requires
+    parameters-from-requires
+    part-of-requires-2
+    part-of-requires-3
+    part-of-requires-4
+    part-of-requires-5
+    part-of-requires-6
+    run-sections-requires
+    same-length
+    same-length-2
+    same-length-3
+    same-length-4
+    returns)

@@ -1,0 +1,5 @@
+pub mod Circuit
+pub mod CircuitLaws
+pub mod Listed
+pub mod Accepted
+pub mod Worked
