@@ -7,14 +7,14 @@ use lib.ListN.{drop, getD, length, take}
 use mathlib.Core.Bool.{Bool, true}
 use mathlib.Core.List.{List, [], _++_, _∷_}
 use Rattle.base.specs.Pick.{both, pick}
-use Rattle.parameters.specs.Lookup.{flagOf, modeOf, shareOf, widthOf}
-use Rattle.parameters.specs.Parameters.{lookupOf}
-use Rattle.tree.specs.Plan.{zeroPlan}
-use Rattle.parameters.specs.declared.parameters.Parameters.{Parameters}
-use Rattle.tree.specs.declared.plan.Plan.{Plan}
 use Rattle.columns.specs.Intake.{startOf}
 use Rattle.columns.specs.declared.intake.Intake.{Intake}
+use Rattle.parameters.specs.Lookup.{flagOf, modeOf, shareOf, widthOf}
+use Rattle.parameters.specs.Parameters.{lookupOf}
+use Rattle.parameters.specs.declared.parameters.Parameters.{Parameters}
 use Rattle.pieces.specs.Setting.{neverOpened}
+use Rattle.tree.specs.Plan.{zeroPlan}
+use Rattle.tree.specs.declared.plan.Plan.{Plan}
 
 -- "A result slice that is too short is 10 and nothing is written." Words of a result slice beyond the named ones keep their values.
 abbrev pub handed : List ℕ → List ℕ → List ℕ

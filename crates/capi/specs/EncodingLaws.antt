@@ -6,22 +6,22 @@ use borrow.Author.Tests.{eq-eqb, le-leb, lt-leb, ne-eqb}
 use lib.Dec.{eqb, leb}
 use lib.ListN.{drop, getD, length, length-append, length-drop, length-replicate, replicate, set, take}
 use lib.Seq.{drop-append-add, drop-cons, drop-drop, drop-length, getD-append-add, getD-at, length-take-le, paste, set-at, take-at, take-length}
-use mathlib.Core.Bool.{Bool, false, true}
+use mathlib.Core.Bool.{false, true}
 use mathlib.Core.List.{List, [], _++_, _∷_, append-assoc, append-nil}
 use mathlib.Core.Logic.{_≢_}
 use mathlib.Core.Path.{_∙_, _≡_, ap, refl, sym}
 use native.Mathlib.Nat.{zero-add}
 use native.Mathlib.Numerals.{add-one}
 use native.Mathlib.Omega.{arith}
-use Rattle.base.specs.Pick.{pick, pick-no, pick-yes}
+use Rattle.base.specs.Pick.{pick-no, pick-yes}
+use Rattle.columns.specs.declared.intake.Intake.{Intake}
 use Rattle.parameters.specs.Lookup.{flagOf, modeOf, shareOf, widthOf}
 use Rattle.parameters.specs.Parameters.{lookupOf}
-use Rattle.tree.specs.Plan.{parametersOf, zeroPlan}
-use Rattle.parameters.specs.declared.lookup.LookupParameters.{LookupParameters}
 use Rattle.parameters.specs.declared.lookup.LookupParameters.the-variants.{NoLookup, TableIdAsConstant, TableIdAsVariable, UseSpecializedColumnsWithTableIdAsConstant, UseSpecializedColumnsWithTableIdAsVariable}
+use Rattle.parameters.specs.declared.lookup.LookupParameters.{LookupParameters}
 use Rattle.parameters.specs.declared.parameters.Parameters.{Parameters}
+use Rattle.tree.specs.Plan.{parametersOf, zeroPlan}
 use Rattle.tree.specs.declared.plan.Plan.{Plan}
-use Rattle.columns.specs.declared.intake.Intake.{Intake}
 use Rattle.capi.specs.Encoding.{countWords, handed, headWords, intakeAt, intakeOf, intakeWords, lookupFits, parametersAt, planAt, planLength, planOf, planWords, stateLength, tailWords, zeroIntake}
 
 -- ---- the lookup mode

@@ -7,10 +7,10 @@ use lib.Dec.{eqb, leb}
 use lib.ListN.{length}
 use mathlib.Core.List.{List}
 use Rattle.base.specs.Pick.{pick}
-use Rattle.tree.specs.Plan.{planFault}
-use Rattle.pieces.specs.Setting.{Store}
 use Rattle.columns.specs.Intake.{openAnswer, openLeft}
 use Rattle.columns.specs.declared.intake.Taken.{Taken}
+use Rattle.pieces.specs.Setting.{Store}
+use Rattle.tree.specs.Plan.{planFault}
 use Rattle.capi.specs.Encoding.{handed, intakeWords, planOf, stateLength}
 
 -- "Open: 19; 10; 9 candidates reach p." The state's slice is tested just before the columns.

@@ -12,14 +12,14 @@ use mathlib.Core.Path.{_∙_, _≡_, ap, refl, sym}
 use native.Mathlib.Decide.{ℕ-discrete}
 use native.Mathlib.Omega.{arith}
 use Rattle.base.specs.Pick.{pick, pick-no, pick-yes}
-use Rattle.tree.specs.Plan.{planFault, zeroPlan}
-use Rattle.tree.specs.declared.plan.Plan.{Plan}
-use Rattle.pieces.specs.Opening.{openNumber, openState, zeroState}
-use Rattle.pieces.specs.Setting.{Store}
 use Rattle.columns.specs.Intake.{openAnswer, openLeft, refusedWith, settingOf, withState}
 use Rattle.columns.specs.IntakeLaws.{open-19, open-refused}
 use Rattle.columns.specs.declared.intake.Intake.{Intake}
 use Rattle.columns.specs.declared.intake.Taken.{Taken}
+use Rattle.pieces.specs.Opening.{openNumber, openState, zeroState}
+use Rattle.pieces.specs.Setting.{Store}
+use Rattle.tree.specs.Plan.{planFault, zeroPlan}
+use Rattle.tree.specs.declared.plan.Plan.{Plan}
 use Rattle.capi.specs.Encoding.{handed, intakeOf, intakeWords, planOf, stateLength}
 use Rattle.capi.specs.EncodingLaws.{handed-short, state-length}
 use Rattle.capi.specs.Intake.{openCall, openedState, openedStore, stateAfter}

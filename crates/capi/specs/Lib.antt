@@ -5,3 +5,4 @@ pub mod Intake
 pub mod EncodingLaws
 pub mod PlanningLaws
 pub mod IntakeLaws
+pub mod Carried

@@ -8,13 +8,12 @@ use lib.ListN.{drop, length, set}
 use lib.Seq.{set-split}
 use mathlib.Core.List.{List, [], _++_, _∷_}
 use mathlib.Core.Logic.{_≢_}
-use mathlib.Core.Path.{_∙_, _≡_, ap, refl, sym}
-use native.Mathlib.Omega.{arith}
+use mathlib.Core.Path.{_∙_, _≡_, ap, sym}
 use Rattle.base.specs.Firsts.{first-found, first-none}
-use Rattle.base.specs.Pick.{pick, pick-no, pick-yes}
+use Rattle.base.specs.Pick.{pick-no, pick-yes}
 use Rattle.labels.specs.Labels.{labelAnswer, labelNumber}
-use Rattle.tree.specs.Plan.{pathAnswer, planAnswer, planNumber, planned}
 use Rattle.parameters.specs.declared.parameters.Parameters.{Parameters}
+use Rattle.tree.specs.Plan.{pathAnswer, planAnswer, planNumber, planned}
 use Rattle.tree.specs.declared.plan.Path.{Path}
 use Rattle.tree.specs.declared.plan.Plan.{Plan}
 use Rattle.tree.specs.declared.planning.Planned.{Planned}
