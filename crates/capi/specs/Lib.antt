@@ -6,3 +6,4 @@ pub mod EncodingLaws
 pub mod PlanningLaws
 pub mod IntakeLaws
 pub mod Carried
+mod Examples

@@ -1,3 +1,5 @@
+-- `encoding::copy_words` meets its contract: after i turns the first i words are copied.
+-- Assumes nothing.
 use Prim.Native.Nat.{_-_, _≤_}
 use lib.ListN.{length}
 use lib.Seq.{length-paste, paste, paste-suc, paste-zero}

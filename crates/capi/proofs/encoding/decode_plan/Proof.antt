@@ -1,3 +1,5 @@
+-- `encoding::decode_plan` meets its contract: the length, the lookup mode, then each field from its place.
+-- Assumes nothing.
 use borrow.Author.Needs.{needs}
 use mathlib.Core.Path.{_∙_, sym}
 use Rattle.capi.specs.EncodingLaws.{plan-made, plan-none, plan-other}

@@ -1,3 +1,5 @@
+-- `encoding::decode_state` meets its contract: the length, then the plan's words and each field from its place.
+-- Assumes nothing.
 use borrow.Author.Needs.{needs}
 use lib.Seq.{length-take-le}
 use mathlib.Core.Path.{_∙_, ap, sym}

@@ -1,3 +1,5 @@
+-- `encoding::encode_plan` meets its contract: each part is written behind those already there.
+-- Assumes nothing.
 use borrow.Author.Needs.{needs}
 use lib.ListN.{length, length-set}
 use mathlib.Core.Path.{_∙_, _≡_, ap}

@@ -1,3 +1,5 @@
+-- `encoding::encode_state` meets its contract: each part is written behind those already there, the plan first.
+-- Assumes nothing.
 use borrow.Author.Needs.{needs}
 use lib.ListN.{length, length-set}
 use mathlib.Core.Path.{_∙_, _≡_}

@@ -1,3 +1,5 @@
+-- `encoding::hand` meets its contract: words copied to the front where there is room.
+-- Assumes nothing.
 use borrow.Author.Needs.{needs}
 use mathlib.Core.Path.{_∙_}
 use Rattle.capi.specs.EncodingLaws.{handed-front, handed-short}

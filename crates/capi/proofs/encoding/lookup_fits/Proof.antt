@@ -1,3 +1,5 @@
+-- `encoding::lookup_fits` meets its contract: the definition's tests, in its order.
+-- Assumes nothing.
 use borrow.Author.Tests.{eq-eqb, le-leb, le-ltb, lt-leb, lt-ltb, ne-eqb}
 use Rattle.capi.specs.Encoding.{lookupFits}
 use Rattle.capi.proofs.encoding.lookup_fits.Statement.{statement}

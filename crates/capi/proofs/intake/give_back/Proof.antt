@@ -1,3 +1,5 @@
+-- `intake::give_back` meets its contract: an accepted call's state is encoded.
+-- Assumes nothing.
 use borrow.Author.Needs.{needs}
 use mathlib.Core.Path.{_∙_, refl}
 use Rattle.capi.specs.IntakeLaws.{state-given, state-kept}

@@ -1,3 +1,5 @@
+-- `intake::setup_finish` meets its contract: the call of the state that the words encode.
+-- Assumes nothing.
 use borrow.Author.Needs.{needs}
 use mathlib.Core.Path.{_∙_, ap}
 use Rattle.columns.specs.Intake.{finishAnswer, finishLeft}

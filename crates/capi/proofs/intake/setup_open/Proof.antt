@@ -1,3 +1,5 @@
+-- `intake::setup_open` meets its contract: a state that is too short first, where 19 still goes before 10; then the opening of the plan that the words encode.
+-- Assumes nothing.
 use borrow.Author.Needs.{needs}
 use lib.ListN.{length}
 use mathlib.Core.Path.{_∙_, _≡_, sym}

@@ -1,3 +1,5 @@
+-- `intake::setup_s_words` meets its contract: the call of the state that the words encode.
+-- Assumes nothing.
 use borrow.Author.Needs.{needs}
 use mathlib.Core.Path.{_∙_, ap}
 use Rattle.columns.specs.Intake.{sWordsAnswer, sWordsLeft}

@@ -1,3 +1,5 @@
+-- `planning::hand_unless` meets its contract: refused, too short, handed out.
+-- Assumes nothing.
 use borrow.Author.Needs.{needs}
 use mathlib.Core.Path.{_∙_}
 use Rattle.capi.specs.PlanningLaws.{hand-given, hand-refused, hand-short}

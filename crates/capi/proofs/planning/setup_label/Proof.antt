@@ -1,3 +1,5 @@
+-- `planning::setup_label` meets its contract: 10, then the label's own number.
+-- Assumes nothing.
 use borrow.Author.Needs.{needs}
 use lib.ListN.{set}
 use mathlib.Core.Path.{_∙_, ap}

@@ -1,3 +1,5 @@
+-- `planning::setup_path` meets its contract: the path of the plan that the words encode.
+-- Assumes nothing.
 use borrow.Author.Needs.{needs}
 use Rattle.capi.specs.PlanningLaws.{path-called}
 use Rattle.capi.proofs.planning.setup_path.Statement.{statement}

@@ -1,3 +1,5 @@
+-- `planning::setup_plan` meets its contract: 20, then 10, then planning's own number, whose plan is encoded.
+-- Assumes nothing.
 use borrow.Author.Needs.{needs}
 use lib.ListN.{length}
 use mathlib.Core.Path.{_≡_}

@@ -1,3 +1,5 @@
+-- `planning::setup_stats` meets its contract: D, K and F of the plan that the words encode.
+-- Assumes nothing.
 use Prim.Native.Nat.{ℕ}
 use borrow.Author.Needs.{needs}
 use mathlib.Core.Path.{_∙_, ap}

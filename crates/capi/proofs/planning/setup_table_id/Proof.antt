@@ -1,3 +1,5 @@
+-- `planning::setup_table_id` meets its contract: the table id of the plan that the words encode.
+-- Assumes nothing.
 use borrow.Author.Needs.{needs}
 use mathlib.Core.Path.{_∙_, _≡_, ap}
 use Rattle.tree.specs.Plan.{tableIdAnswer}

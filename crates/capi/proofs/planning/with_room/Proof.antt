@@ -1,3 +1,5 @@
+-- `planning::with_room` meets its contract: the definition's tests, in its order.
+-- Assumes nothing.
 use borrow.Author.Tests.{eq-eqb, le-leb, le-ltb, lt-leb, lt-ltb, ne-eqb}
 use Rattle.capi.specs.Planning.{withRoom}
 use Rattle.capi.proofs.planning.with_room.Statement.{statement}
