@@ -1,6 +1,6 @@
 -- What a call leaves in a plan's or a state's words is what the next call reads from them, and words that encode nothing are 19.
 --
--- Main statements: `other-plan`, `no-mode`, `other-state`; `plan-carried`, `open-carried`, `rows-carried`, `s-words-carried`, `cells-carried`, `tables-carried`,
+-- Main statements: `other-plan`, `no-mode`, `other-state`, `plan-made-up`; `plan-carried`, `open-carried`, `rows-carried`, `s-words-carried`, `cells-carried`, `tables-carried`,
 -- `finish-carried`.
 use Prim.Native.Nat.{_≤_, ℕ}
 use borrow.Author.Tests.{eq-eqb, le-leb, ne-eqb}
@@ -17,7 +17,7 @@ use native.Mathlib.Omega.{arith}
 use Rattle.base.specs.Firsts.{first-zero}
 use Rattle.base.specs.Pick.{pick, pick-no, pick-yes}
 use Rattle.columns.specs.Intake.{answered, cellsAnswer, finishAnswer, openAnswer, refusedWith, rowsAnswer, sWordsAnswer, settingOf, stateOf, tablesAnswer, withState}
-use Rattle.columns.specs.IntakeLaws.{cells-19, finish-19, rows-19, tables-19, words-19}
+use Rattle.columns.specs.IntakeLaws.{cells-19, cells-refused, finish-19, finish-refused, rows-19, rows-refused, tables-19, tables-refused, words-19, words-refused}
 use Rattle.columns.specs.declared.intake.Intake.{Intake}
 use Rattle.columns.specs.declared.intake.Taken.{Taken}
 use Rattle.parameters.specs.Parameters.{parametersNumber}
@@ -63,13 +63,38 @@ unsound : (q : Plan) (s : State) → planFault q ≡ 19 → stands (settingOf q)
 unfolding stands
 unsound q s e = rw e
 
-pub other-state : (ws : List ℕ) → length ws ≢ stateLength → stands (settingOf (intakeOf ws .plan)) (stateOf (intakeOf ws)) ≡ false
-other-state ws d = ap (λ (s : Intake). stands (settingOf (s .plan)) (stateOf s)) (sym (state-other ws d)) ∙ unsound zeroPlan zeroState zero-fault
+-- every call of a state that does not stand is 19
+pub record MadeUp (s : Intake) : Type 0 where
+  pub rows : (piece b : List ℕ) → rowsAnswer s piece b .number ≡ 19
+  pub s-words : (piece b : List ℕ) → sWordsAnswer s piece b .number ≡ 19
+  pub cells : (piece : List ℕ) (b : Cols) → cellsAnswer s piece b .number ≡ 19
+  pub tables : (piece b : List ℕ) → tablesAnswer s piece b .number ≡ 19
+  pub finish : (b : Cols) → finishAnswer s b .number ≡ 19
 
-pub no-mode-state : (ws : List ℕ) → length ws ≡ stateLength → planFault (planOf (take planLength ws)) ≡ 19 → stands (settingOf (intakeOf ws .plan)) (stateOf (intakeOf ws)) ≡ false
-no-mode-state ws e f =
+refused-19 : (s : Intake) (t : Taken) → refusedWith 19 s ≡ t → t .number ≡ 19
+refused-19 s t e = ap (λ (x : Taken). x .number) (sym e)
+
+made-up : (s : Intake) → stands (settingOf (s .plan)) (stateOf s) ≡ false → MadeUp s
+made-up s e =
+    record {
+      rows = λ piece b. refused-19 s (rowsAnswer s piece b) (rows-refused s piece b 19 (rows-19 s piece b e) (omega arith) .0);
+      s-words = λ piece b. refused-19 s (sWordsAnswer s piece b) (words-refused s piece b 19 (words-19 s piece b e) (omega arith) .0);
+      cells = λ piece b. refused-19 s (cellsAnswer s piece b) (cells-refused s piece b 19 (cells-19 s piece b e) (omega arith) .0);
+      tables = λ piece b. refused-19 s (tablesAnswer s piece b) (tables-refused s piece b 19 (tables-19 s piece b e) (omega arith) .0);
+      finish = λ b. refused-19 s (finishAnswer s b) (finish-refused s b 19 (finish-19 s b e) (omega arith) .0);
+    }
+
+other-stands : (ws : List ℕ) → length ws ≢ stateLength → stands (settingOf (intakeOf ws .plan)) (stateOf (intakeOf ws)) ≡ false
+other-stands ws d = ap (λ (s : Intake). stands (settingOf (s .plan)) (stateOf s)) (sym (state-other ws d)) ∙ unsound zeroPlan zeroState zero-fault
+
+pub other-state : (ws : List ℕ) → length ws ≢ stateLength → MadeUp (intakeOf ws)
+other-state ws d = made-up (intakeOf ws) (other-stands ws d)
+
+-- a state whose plan's words are a made-up plan, as those of no lookup mode
+pub plan-made-up : (ws : List ℕ) → length ws ≡ stateLength → planFault (planOf (take planLength ws)) ≡ 19 → MadeUp (intakeOf ws)
+plan-made-up ws e f =
     let p : intakeOf ws .plan ≡ planOf (take planLength ws) = ap (λ (s : Intake). s .plan) (sym (state-read ws e)) in
-    unsound (intakeOf ws .plan) (stateOf (intakeOf ws)) (ap planFault p ∙ f)
+    made-up (intakeOf ws) (unsound (intakeOf ws .plan) (stateOf (intakeOf ws)) (ap planFault p ∙ f))
 
 -- ---- the arrays have their lengths
 pub record LongPlan (q : Plan) : Type 0 where
@@ -162,33 +187,33 @@ module _ (ws piece b : List ℕ) where
   unfolding rowsAnswer
   rows-carried =
       carried ws (rowsNumber (settingOf (s .plan)) (stateOf s) piece b) (rowsState (stateOf s) piece)
-      (λ d. not-none _ (rows-19 s piece b (other-state ws d))) (marked-long (s .used) (rowsOf piece) ∙ used-long ws)
+      (λ d. not-none _ (rows-19 s piece b (other-stands ws d))) (marked-long (s .used) (rowsOf piece) ∙ used-long ws)
 
   pub s-words-carried : intakeOf (stateAfter (sWordsAnswer (intakeOf ws) piece b) ws) ≡ sWordsAnswer (intakeOf ws) piece b .state
   unfolding sWordsAnswer
   s-words-carried =
       carried ws (sWordsNumber (settingOf (s .plan)) (stateOf s) piece b) (sWordsState (stateOf s) piece)
-      (λ d. not-none _ (words-19 s piece b (other-state ws d))) (used-long ws)
+      (λ d. not-none _ (words-19 s piece b (other-stands ws d))) (used-long ws)
 
   pub tables-carried : intakeOf (stateAfter (tablesAnswer (intakeOf ws) piece b) ws) ≡ tablesAnswer (intakeOf ws) piece b .state
   unfolding tablesAnswer
   tables-carried =
       carried ws (tablesNumber (settingOf (s .plan)) (stateOf s) piece b) (tablesState (stateOf s) piece)
-      (λ d. not-none _ (tables-19 s piece b (other-state ws d))) (used-long ws)
+      (λ d. not-none _ (tables-19 s piece b (other-stands ws d))) (used-long ws)
 
 pub cells-carried : (ws piece : List ℕ) (b : Cols) → intakeOf (stateAfter (cellsAnswer (intakeOf ws) piece b) ws) ≡ cellsAnswer (intakeOf ws) piece b .state
 unfolding cellsAnswer
 cells-carried ws piece b =
     let s = intakeOf ws in
     carried ws (cellsNumber (settingOf (s .plan)) (stateOf s) piece b) (cellsState (stateOf s) piece)
-    (λ d. not-none _ (cells-19 s piece b (other-state ws d))) (used-long ws)
+    (λ d. not-none _ (cells-19 s piece b (other-stands ws d))) (used-long ws)
 
 pub finish-carried : (ws : List ℕ) (b : Cols) → intakeOf (stateAfter (finishAnswer (intakeOf ws) b) ws) ≡ finishAnswer (intakeOf ws) b .state
 unfolding finishAnswer
 finish-carried ws b =
     let s = intakeOf ws in
     carried ws (finishNumber (settingOf (s .plan)) (stateOf s) b) (finishedState (stateOf s))
-    (λ d. not-none _ (finish-19 s b (other-state ws d))) (used-long ws)
+    (λ d. not-none _ (finish-19 s b (other-stands ws d))) (used-long ws)
 
 -- ---- opening's state, in a slice of just its length
 pub open-carried : (ws state : List ℕ) (b : Store) → length state ≡ stateLength → intakeOf (openedState ws state b) ≡ openAnswer (planOf ws) b .state
