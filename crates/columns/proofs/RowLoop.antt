@@ -6,7 +6,7 @@ use Prim.Native.Nat.{ℕ, suc, _+_, _-_, _≤_, _<_}
 use native.Mathlib.Numerals.{add-one}
 use native.Mathlib.Omega.{arith}
 use lib.ListN.{length, getD, set, take, drop}
-use Rattle.pieces.specs.Records.{Read, whole, cut, rowSize, readBy, rowsOf}
+use Rattle.pieces.specs.Records.{Read, whole, cut, rowSize, rowsOf}
 use Rattle.pieces.specs.Writing.{put, padded, putLines}
 use Rattle.pieces.specs.Rows.{rowFault, rowsFault, rowLines, marked}
 use Rattle.pieces.specs.RecordLaws.{Rest, rest-begin, rest-done, rest-whole, fault-head, going}

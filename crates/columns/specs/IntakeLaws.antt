@@ -1,19 +1,19 @@
 -- The answers of the intake's calls, case by case: 19, then 10, then the section's own number, then acceptance.
 --
 -- Main statements: for each call its number in each case, `..-refused` (the state and the buffers as they were) and `..-taken`.
-use mathlib.Core.Path.{_≡_, refl, sym, ap, _∙_}
+use mathlib.Core.Path.{_≡_, refl, sym, _∙_}
 use mathlib.Core.Logic.{_≢_}
 use mathlib.Core.Bool.{Bool, true, false}
 use mathlib.Core.List.{List}
-use Prim.Native.Nat.{ℕ, _+_, _*_, _≤_, _<_}
+use Prim.Native.Nat.{ℕ, _≤_, _<_}
 use native.Mathlib.Omega.{arith}
 use lib.ListN.{length}
 use lib.Dec.{leb, eqb}
-use borrow.Author.Tests.{eq-eqb, ne-eqb, eqb-true, le-leb, lt-leb}
-use Rattle.base.specs.Pick.{pick, pick-yes, pick-no}
+use borrow.Author.Tests.{eq-eqb, ne-eqb, eqb-true, le-leb, lt-leb, leb-true}
+use Rattle.base.specs.Pick.{pick, both, pick-yes, pick-no, both-true}
 use Rattle.tree.specs.Plan.{planFault, zeroPlan}
 use Rattle.tree.specs.declared.plan.Plan.{Plan}
-use Rattle.pieces.specs.Setting.{Setting, State, Store, Cols, cols, stands, constantRoom, copyRoom, scratchRoom, tableRoom, specialRoom}
+use Rattle.pieces.specs.Setting.{Setting, State, Store, Cols, stands, constantRoom, copyRoom, scratchRoom, tableRoom, specialRoom}
 use Rattle.pieces.specs.Records.{rowsOf, tablesOf}
 use Rattle.pieces.specs.Opening.{roomToOpen, openNumber, openStore}
 use Rattle.pieces.specs.Rows.{rowsFault, rowsNumber, rowsWritten, rowsState}
@@ -21,7 +21,7 @@ use Rattle.pieces.specs.SWords.{sWordsFault, sWordsNumber, sWordsWritten, sWord
 use Rattle.pieces.specs.Cells.{cellsFault, cellsNumber, roomForCells, cellsWritten, cellsState}
 use Rattle.pieces.specs.Tables.{tablesFault, tablesNumber, tablesWritten, tablesState, stackOf}
 use Rattle.pieces.specs.Finishing.{complete, allUsed, scratchFine, finishNumber, finishedCopies, finishedState}
-use Rattle.pieces.specs.NumberLaws.{Stood, stood}
+use Rattle.pieces.specs.NumberLaws.{stood}
 use Rattle.columns.specs.Intake.{settingOf, stateOf, withState, startOf, answered, unlessRefused, refusedWith, openAnswer, openLeft, rowsAnswer, rowsLeft, sWordsAnswer, sWordsLeft, cellsAnswer, cellsLeft, tablesAnswer, tablesLeft, finishAnswer, finishLeft}
 use Rattle.columns.specs.declared.intake.Intake.{Intake}
 use Rattle.columns.specs.declared.intake.Taken.{Taken}
@@ -141,6 +141,15 @@ module _ (s : Intake) (ws : List ℕ) where
     cells-taken e = (taken-answer (cellsNumber x st ws b) s (cellsState st ws) e, taken-left (cellsNumber x st ws b) (cellsWritten st ws b) b e)
 
 -- ---- opening
+-- 10 or 0, and the test behind it
+pub short-room : (t : Bool) (n : ℕ) → n ≡ pick t 0 10 → n ≢ 0 → (t ≡ false) × (n ≡ 10)
+short-room true n e d = absurd (d e)
+short-room false n e d = (refl, e)
+
+pub long-room : (t : Bool) (n : ℕ) → n ≡ pick t 0 10 → n ≡ 0 → t ≡ true
+long-room true n e z = refl
+long-room false n e z = absurd (omega arith)
+
 module _ (q : Plan) (b : Store) where
   abbrev o : Setting
   o = settingOf q
@@ -178,6 +187,18 @@ module _ (q : Plan) (b : Store) where
   unfolding roomToOpen
   long-enough h k l m =
       rw (le-leb (constantRoom o) (length (b .constants)) h, le-leb (copyRoom o) (length (b .cells .copies)) k, le-leb (scratchRoom o) (length (b .cells .scratch)) l, le-leb (tableRoom o) (length (b .tables)) m)
+
+  -- and back: each buffer has its named words
+  pub opened-long : roomToOpen o b ≡ true → (constantRoom o ≤ length (b .constants)) × (copyRoom o ≤ length (b .cells .copies)) × (scratchRoom o ≤ length (b .cells .scratch)) × (tableRoom o ≤ length (b .tables))
+  unfolding roomToOpen
+  opened-long e =
+      let t3 = leb (tableRoom o) (length (b .tables)) in
+      let t2 = both (leb (scratchRoom o) (length (b .cells .scratch))) t3 in
+      let t1 = both (leb (copyRoom o) (length (b .cells .copies))) t2 in
+      let h = both-true (leb (constantRoom o) (length (b .constants))) t1 e in
+      let k = both-true (leb (copyRoom o) (length (b .cells .copies))) t2 (h .1) in
+      let l = both-true (leb (scratchRoom o) (length (b .cells .scratch))) t3 (k .1) in
+      (leb-true (constantRoom o) (length (b .constants)) (h .0), leb-true (copyRoom o) (length (b .cells .copies)) (k .0), leb-true (scratchRoom o) (length (b .cells .scratch)) (l .0), leb-true (tableRoom o) (length (b .tables)) (l .1))
 
   pub open-refused : (n : ℕ) → openNumber o b ≡ n → n ≢ 0 → (refusedWith n (startOf zeroPlan 0) ≡ openAnswer q b) × (b ≡ openLeft q b)
   unfolding openAnswer openLeft

@@ -6,27 +6,27 @@ use mathlib.Core.Path.{_≡_, refl, sym, ap, _∙_}
 use mathlib.Core.Logic.{_≢_}
 use mathlib.Core.Bool.{Bool, true, false}
 use mathlib.Core.List.{List, [], _∷_, _++_}
-use Prim.Native.Nat.{ℕ, suc, _+_, _*_, _≤_, _<_}
+use Prim.Native.Nat.{ℕ, suc, _+_, _*_, _≤_}
 use native.Mathlib.Decide.{ℕ-discrete}
 use native.Mathlib.Omega.{arith}
 use lib.ListN.{length, drop, set, replicate, length-append, length-set}
-use lib.Dec.{ltb, leb, eqb}
-use borrow.Author.Tests.{eq-eqb, ne-eqb, le-leb, eqb-true}
+use lib.Dec.{ltb, eqb}
+use borrow.Author.Tests.{eq-eqb, le-leb, eqb-true}
 use Rattle.base.specs.Firsts.{orNumber, first-none, first-found, first-zero}
-use Rattle.base.specs.Pick.{pick, pick-yes, pick-no, pick-zero}
+use Rattle.base.specs.Pick.{pick, pick-zero}
 use Rattle.base.specs.Tables.{table-length}
 use Rattle.labels.specs.Labels.{representativesOf, labelOf}
 use Rattle.tree.specs.Plan.{planFault}
 use Rattle.tree.specs.declared.plan.Plan.{Plan}
-use Rattle.pieces.specs.Setting.{Setting, State, Store, Held, Cols, cols, constantRoom, copyRoom, scratchRoom, tableRoom, specialRoom, mostTables, isOpened, stands}
+use Rattle.pieces.specs.Setting.{Setting, State, Store, Held, Cols, constantRoom, copyRoom, scratchRoom, tableRoom, specialRoom, mostTables, isOpened, stands}
 use Rattle.pieces.specs.Records.{Read, rowsOf, tablesOf}
 use Rattle.pieces.specs.Opening.{mostGates, roomToOpen, openNumber, openState, fresh}
 use Rattle.pieces.specs.Rows.{rowLines, rowsFault, rowsNumber, rowsWritten, rowsState, marked}
 use Rattle.pieces.specs.SWords.{sWordsFault, sWordsNumber, sWordsWritten, sWordsState}
 use Rattle.pieces.specs.Cells.{placeholder, indexOf, value, firstSeen, seenAgain, placeCell, cellsRun, cellsFault, cellsNumber, roomForCells, cellsState}
-use Rattle.pieces.specs.Tables.{Stack, tableLines, tablesFault, tablesNumber, tablesWritten, tablesState, stackOf, sumRows}
+use Rattle.pieces.specs.Tables.{tableLines, tablesFault, tablesNumber, tablesWritten, tablesState, stackOf, sumRows}
 use Rattle.pieces.specs.Finishing.{complete, allUsed, scratchFine, finishNumber}
-use Rattle.pieces.specs.Calls.{Call, rows, sWords, cellWords, tableWords, finishing, number, taken, after, run}
+use Rattle.pieces.specs.Calls.{Call, rows, sWords, cellWords, tableWords, number, taken, after, run}
 use Rattle.pieces.specs.WriteLaws.{put-length, lines-length}
 use Rattle.pieces.specs.LineLaws.{sum-done}
 use Rattle.pieces.specs.CellLaws.{run-copies, cells-room}

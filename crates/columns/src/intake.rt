@@ -1,10 +1,11 @@
 // The intake: 01's state between calls, and the calls. Each call is lent just the buffers that it
 // may write. A refusal hands the state back as it was and writes nothing.
 ghost use mathlib.Core.Path.{_≡_};
-ghost use Prim.Native.Nat.{ℕ, _*_, _+_};
-ghost use lib.ListN.{length};
+ghost use Prim.Native.Nat.{_*_, _+_};
 ghost use Rattle.tree.specs.Plan.{planFault};
 ghost use Rattle.pieces.specs.Setting.{cols, stands};
+ghost use Rattle.base.specs.Pick.{pick};
+ghost use Rattle.pieces.specs.Opening.{roomToOpen};
 ghost use Rattle.pieces.specs.Finishing.{complete};
 ghost use Rattle.columns.specs.Intake.{settingOf, stateOf, storeOf, refusedWith, RoomsOf, openAnswer, openLeft, rowsAnswer, rowsLeft, sWordsAnswer, sWordsLeft, cellsAnswer, cellsLeft, tablesAnswer, tablesLeft, finishAnswer, finishLeft};
 use crate::cells::cells_fault;
@@ -60,14 +61,14 @@ fn refused(number: u64, state: Intake) -> Taken
 }
 
 // The named words of each buffer.
-pub(crate) struct Rooms {
-    pub(crate) constants: usize,
-    pub(crate) copies: usize,
-    pub(crate) scratch: usize,
-    pub(crate) tables: usize,
+struct Rooms {
+    constants: usize,
+    copies: usize,
+    scratch: usize,
+    tables: usize,
 }
 
-pub(crate) fn rooms_of(plan: Plan) -> Rooms
+fn rooms_of(plan: Plan) -> Rooms
     requires { ⌜ planFault plan ≡ 0 ⌝ }
     ensures { λ r. ⌜ RoomsOf (settingOf plan) r ⌝ }
 {
@@ -82,6 +83,33 @@ pub(crate) fn rooms_of(plan: Plan) -> Rooms
         scratch: (2 * plan.variables) as usize,
         tables: tables as usize,
     }
+}
+
+// 10 where a buffer is too short to be opened, else 0.
+pub(crate) fn room_number(
+    plan: Plan,
+    constants: &[u64],
+    copies: &[u64],
+    scratch: &[u64],
+    tables: &[u64],
+) -> u64
+    requires { ⌜ planFault plan ≡ 0 ⌝ }
+    ensures { λ r. ⌜ r ≡ pick (roomToOpen (settingOf plan) (storeOf (now (constants .entry)) (now (copies .entry)) (now (scratch .entry)) (now (tables .entry)))) 0 10 ⌝ }
+{
+    let rooms = rooms_of(plan);
+    if constants.len() < rooms.constants {
+        return 10;
+    }
+    if copies.len() < rooms.copies {
+        return 10;
+    }
+    if scratch.len() < rooms.scratch {
+        return 10;
+    }
+    if tables.len() < rooms.tables {
+        return 10;
+    }
+    0
 }
 
 impl Intake {
@@ -150,23 +178,15 @@ impl Intake {
         if plan.fault() != 0 {
             return refused(19, zero);
         }
-        let rooms = rooms_of(plan);
-        if constants.len() < rooms.constants {
-            return refused(10, zero);
-        }
-        if copies.len() < rooms.copies {
-            return refused(10, zero);
-        }
-        if scratch.len() < rooms.scratch {
-            return refused(10, zero);
-        }
-        if tables.len() < rooms.tables {
-            return refused(10, zero);
+        let short = room_number(plan, constants, copies, scratch, tables);
+        if short != 0 {
+            return refused(short, zero);
         }
         let number = labels::fill_labels(plan.trace, plan.copy, copies);
         if number != 0 {
             return refused(number, zero);
         }
+        let rooms = rooms_of(plan);
         clear(rooms.constants, constants);
         clear(rooms.scratch, scratch);
         clear(rooms.tables, tables);

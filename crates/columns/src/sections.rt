@@ -3,12 +3,11 @@
 // the buffers as they were.
 ghost use mathlib.Core.Path.{_≡_};
 ghost use mathlib.Core.List.{List};
-ghost use Prim.Native.Nat.{ℕ, _+_, _≤_};
-ghost use lib.ListN.{length};
+ghost use Prim.Native.Nat.{ℕ};
 ghost use Rattle.tree.specs.Plan.{planFault};
 ghost use Rattle.pieces.specs.Records.{rowsOf};
-ghost use Rattle.pieces.specs.Opening.{openNumber, openState};
-ghost use Rattle.pieces.specs.Rows.{rowsFault, rowsState};
+ghost use Rattle.pieces.specs.Opening.{openNumber};
+ghost use Rattle.pieces.specs.Rows.{rowsFault};
 ghost use Rattle.columns.specs.Intake.{settingOf, storeOf};
 ghost use Rattle.columns.specs.Sections.{sectionsNumber};
 ghost use Rattle.columns.specs.SectionsLaws.{piecesFault, afterPieces, lastTests};
@@ -17,7 +16,7 @@ use crate::finishing::all_used;
 use crate::gates::gate_rows;
 use crate::intake::Intake;
 use crate::intake::OPEN;
-use crate::intake::rooms_of;
+use crate::intake::room_number;
 use crate::rows::mark_rows;
 use crate::rows::rows_fault;
 use crate::s_words::s_words_fault;
@@ -37,18 +36,9 @@ fn open_number(
     if plan.fault() != 0 {
         return 19;
     }
-    let rooms = rooms_of(plan);
-    if constants.len() < rooms.constants {
-        return 10;
-    }
-    if copies.len() < rooms.copies {
-        return 10;
-    }
-    if scratch.len() < rooms.scratch {
-        return 10;
-    }
-    if tables.len() < rooms.tables {
-        return 10;
+    let short = room_number(plan, constants, copies, scratch, tables);
+    if short != 0 {
+        return short;
     }
     labels::representatives(plan.trace, plan.copy).number
 }

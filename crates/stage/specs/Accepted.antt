@@ -1,15 +1,13 @@
 -- What an accepted circuit leaves: columns that are right for it, by the claim over lists of calls.
 --
 -- Main statements: `stage-right`, `listed-right`.
-use mathlib.Core.Path.{_≡_, refl, sym, ap, _∙_, subst}
+use mathlib.Core.Path.{_≡_, refl, ap, _∙_, subst}
 use mathlib.Core.Logic.{inl, inr}
 use mathlib.Core.List.{List, [], _∷_, _++_, append-nil}
 use Prim.Native.Nat.{ℕ}
 use native.Mathlib.Decide.{ℕ-discrete}
-use lib.Dec.{eqb}
 use borrow.Author.Tests.{eq-eqb, ne-eqb}
 use Rattle.base.specs.Firsts.{first-zero}
-use Rattle.base.specs.Pick.{pick}
 use Rattle.tree.specs.Plan.{planNumber}
 use Rattle.parameters.specs.declared.parameters.Parameters.{Parameters}
 use Rattle.pieces.specs.Setting.{Setting, Store, Held}
@@ -21,7 +19,7 @@ use Rattle.claim.specs.Theorem.{claim}
 use Rattle.listing.specs.Listing.{Words, whole, read}
 use Rattle.stage.specs.Circuit.{calls, stageNumber, stageAnswer, stageLeft}
 use Rattle.stage.specs.CircuitLaws.{answer-taken}
-use Rattle.stage.specs.Listed.{parametersFrom, wordsAnswer, wordsLeft, listedAnswer, listedLeft, listed-whole}
+use Rattle.stage.specs.Listed.{parametersFrom, listedAnswer, listedLeft, listed-whole}
 use Rattle.stage.specs.declared.circuit.Staged.{Staged}
 
 -- ---- a list of calls of which none is refused

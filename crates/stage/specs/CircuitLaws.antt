@@ -18,7 +18,7 @@ use Rattle.tree.specs.declared.plan.Plan.{Plan}
 use Rattle.pieces.specs.Setting.{Setting, Store, Held, Cols, cols}
 use Rattle.pieces.specs.Opening.{openNumber, fresh}
 use Rattle.pieces.specs.Calls.{Call, rows, sWords, cellWords, tableWords, finishing, number, taken, after, run}
-use Rattle.columns.specs.Intake.{settingOf, withState, storeOf, unlessRefused, openAnswer, openLeft, rowsAnswer, rowsLeft, sWordsAnswer, sWordsLeft, cellsAnswer, cellsLeft, tablesAnswer, tablesLeft, finishAnswer, finishLeft}
+use Rattle.columns.specs.Intake.{settingOf, withState, storeOf, unlessRefused, openAnswer, openLeft, rowsAnswer, rowsLeft, sWordsAnswer, sWordsLeft, cellsAnswer, cellsLeft, tablesAnswer, tablesLeft, finishLeft}
 use Rattle.columns.specs.IntakeLaws.{open-taken}
 use Rattle.columns.specs.Sections.{firstRefusal, sections, finishTested, sectionsNumber}
 use Rattle.columns.specs.SectionsLaws.{or-under, or-nothing, first-append, finish-tested}

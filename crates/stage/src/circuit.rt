@@ -1,7 +1,6 @@
 // A whole circuit in one call. A refusal of any step leaves every word of the buffers as it was:
 // the number is known before the first word is written.
 ghost use mathlib.Core.Path.{_≡_};
-ghost use Prim.Native.Nat.{ℕ};
 ghost use Rattle.columns.specs.Intake.{settingOf, storeOf};
 ghost use Rattle.columns.specs.Sections.{sectionsNumber};
 ghost use Rattle.stage.specs.Circuit.{refusedBy, stageAnswer, stageLeft};

@@ -1,6 +1,5 @@
 // A listing in one call: tested whole (20), then run section by section.
 ghost use mathlib.Core.Path.{_≡_};
-ghost use Prim.Native.Nat.{ℕ};
 ghost use lib.ListN.{length};
 ghost use Rattle.listing.specs.Ends.{cut, wordsAt};
 ghost use Rattle.columns.specs.Intake.{storeOf};

@@ -1,6 +1,5 @@
 -- `columns::rows::mark_rows` meets its contract. Each turn marks the gate of one record, which the piece has no fault with (RowLoop).
 -- Assumes nothing.
-use borrow.Author.Needs.{needs}
 use native.Mathlib.Omega.{arith}
 use Prim.Native.Nat.{ℕ, _+_, _-_, _<_, _≤_}
 use lib.ListN.{length, getD}

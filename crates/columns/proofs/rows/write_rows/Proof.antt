@@ -1,12 +1,9 @@
 -- `columns::rows::write_rows` meets its contract. Each turn writes one record, which the piece has no fault with, and the rest is what is left (RowLoop).
 -- Assumes nothing.
-use borrow.Author.Needs.{needs}
-use mathlib.Core.Path.{_≡_, refl, sym, ap, _∙_}
 use native.Mathlib.Omega.{arith}
-use Prim.Native.Nat.{ℕ, suc, _+_, _-_, _*_, _<_, _≤_}
-use lib.ListN.{length, getD, take, drop}
+use Prim.Native.Nat.{ℕ, _+_, _-_, _<_, _≤_}
+use lib.ListN.{length, getD}
 use mathlib.Core.List.{List}
-use mathlib.Core.Logic.{_≢_}
 use Rattle.columns.proofs.Parts.{part-is, part-length}
 use Rattle.columns.proofs.RowLoop.{counting-front, Writing, writing-begin, writing-next, writing-lines}
 use Rattle.columns.proofs.rows.write_rows.Statement.{statement}

@@ -1,13 +1,12 @@
 -- `columns::sections::pieces_fault` meets its contract: the first fault of rows, S words, cells and tables, in this order.
 -- Assumes nothing.
 use borrow.Author.Needs.{needs}
-use mathlib.Core.Path.{_≡_, sym, ap, _∙_}
+use mathlib.Core.Path.{_≡_, sym, _∙_}
 use native.Mathlib.Omega.{arith}
 use native.Mathlib.Nat.{mul-le-mul}
-use Prim.Native.Nat.{ℕ, _*_, _≤_, _<_}
-use lib.ListN.{length, getD}
+use lib.ListN.{length}
 use lib.Dec.{ltb}
-use Rattle.base.specs.Firsts.{orNumber, first-none, first-found}
+use Rattle.base.specs.Firsts.{first-none, first-found}
 use Rattle.selector.specs.Gates.{constantsOf}
 use Rattle.parameters.specs.Lookup.{modeOf, widthOf}
 use Rattle.tree.specs.Plan.{gatesGiven, planExtra}

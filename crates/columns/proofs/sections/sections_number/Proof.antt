@@ -2,7 +2,6 @@
 -- Assumes nothing.
 use borrow.Author.Needs.{needs}
 use mathlib.Core.Path.{_≡_, sym, _∙_}
-use Prim.Native.Nat.{ℕ}
 use Rattle.base.specs.Firsts.{first-zero}
 use Rattle.pieces.specs.Opening.{openNumber}
 use Rattle.columns.specs.Intake.{settingOf, storeOf}

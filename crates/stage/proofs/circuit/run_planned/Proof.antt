@@ -1,12 +1,10 @@
 -- `stage::circuit::run_planned` meets its contract: the number first; then each call answers and writes as its call in the list does.
 -- Assumes nothing.
 use borrow.Author.Needs.{needs}
-use mathlib.Core.Path.{_≡_, refl, sym, ap, _∙_}
-use mathlib.Core.List.{List}
-use Prim.Native.Nat.{ℕ}
+use mathlib.Core.Path.{sym, _∙_}
 use Rattle.pieces.specs.Setting.{Setting, Held}
 use Rattle.pieces.specs.Opening.{fresh}
-use Rattle.pieces.specs.Calls.{rows, sWords, cellWords, tableWords, finishing, after, run}
+use Rattle.pieces.specs.Calls.{rows, sWords, cellWords, tableWords, after, run}
 use Rattle.columns.specs.Intake.{settingOf, storeOf}
 use Rattle.stage.specs.CircuitLaws.{opened-first, planned-refused, planned-taken, by-opening, by-rows, by-words, by-cells, by-tables, by-finishing}
 use Rattle.stage.proofs.circuit.run_planned.Statement.{statement}

@@ -7,7 +7,6 @@ use Prim.Native.Nat.{ℕ}
 use Rattle.tree.specs.Plan.{planNumber, planned}
 use Rattle.tree.specs.declared.plan.Plan.{Plan}
 use Rattle.tree.specs.declared.planning.Planned.{Planned}
-use Rattle.pieces.specs.Setting.{Store}
 use Rattle.columns.specs.Intake.{settingOf, storeOf}
 use Rattle.columns.specs.Sections.{sectionsNumber}
 use Rattle.stage.specs.Circuit.{stageNumber, stageLeft}

@@ -1,9 +1,7 @@
 -- `stage::listed::run_listing` meets its contract: the reader's refusal, or the circuit of the words that the reader gives.
 -- Assumes nothing.
 use borrow.Author.Needs.{needs}
-use mathlib.Core.Path.{_≡_, sym, ap, _∙_}
-use mathlib.Core.List.{List}
-use Prim.Native.Nat.{ℕ}
+use mathlib.Core.Path.{sym, _∙_}
 use Rattle.columns.specs.Intake.{storeOf}
 use Rattle.listing.specs.Ends.{wordsAt}
 use Rattle.listing.specs.ReaderLaws.{read-whole, read-refused, read-eight}

@@ -1,9 +1,7 @@
 -- `stage::listed::run_parts` meets its contract: each section's words are those at its place.
 -- Assumes nothing.
 use borrow.Author.Needs.{needs}
-use mathlib.Core.Path.{_≡_, ap, _∙_}
-use mathlib.Core.List.{List}
-use Prim.Native.Nat.{ℕ}
+use mathlib.Core.Path.{ap, _∙_}
 use lib.ListN.{length}
 use Rattle.columns.specs.Intake.{storeOf}
 use Rattle.listing.specs.Ends.{wordsAt}

@@ -1,26 +1,23 @@
--- `columns::intake::Intake::open` meets its contract: 19, 10 for each of the four buffers, 9, then labels written and all other named words zeroed.
+-- `columns::intake::Intake::open` meets its contract: 19, 10, 9, then labels written and all other named words zeroed.
 -- Assumes nothing.
 use borrow.Author.Needs.{needs}
-use mathlib.Core.Path.{_≡_, refl, sym, ap, _∙_}
-use mathlib.Core.Logic.{_≢_}
+use mathlib.Core.Path.{_≡_, sym, ap, _∙_}
 use mathlib.Core.Bool.{true}
 use mathlib.Core.List.{List}
 use native.Mathlib.Omega.{arith}
-use Prim.Native.Nat.{ℕ, _*_, _<_, _≤_}
+use Prim.Native.Nat.{ℕ, _*_, _≤_}
 use lib.ListN.{length}
-use lib.Dec.{leb}
 use borrow.Author.Tests.{le-leb}
 use Rattle.labels.specs.Ranges.{rangesFit}
-use Rattle.labels.specs.Labels.{searchNumber, fillNumber, labelsWritten}
+use Rattle.labels.specs.Labels.{searchNumber, fillNumber}
 use Rattle.labels.specs.LabelLaws.{written-refused, written-is}
 use Rattle.tree.specs.Plan.{planFault, zeroPlan}
 use Rattle.tree.specs.declared.plan.Plan.{Plan}
-use Rattle.pieces.specs.Setting.{constantRoom, copyRoom, scratchRoom, tableRoom}
-use Rattle.pieces.specs.Opening.{roomToOpen, openNumber, openStore}
+use Rattle.pieces.specs.Opening.{roomToOpen, openNumber}
 use Rattle.pieces.specs.Writing.{cleared}
 use Rattle.columns.specs.Intake.{settingOf, storeOf, startOf, refusedWith}
-use Rattle.columns.specs.IntakeLaws.{open-19, open-10, open-own, short-constants, short-copies, short-scratch, short-tables, long-enough, open-refused, open-taken}
-use Rattle.columns.specs.PlanLaws.{Sound, sound}
+use Rattle.columns.specs.IntakeLaws.{short-room, long-room, open-19, open-10, open-own, opened-long, open-refused, open-taken}
+use Rattle.columns.specs.PlanLaws.{sound}
 use Rattle.columns.specs.declared.intake.Intake.{Intake}
 use borrow.Author.Needs.{needs}
 use Rattle.columns.proofs.intake.Intake.open.Statement.{statement}
@@ -57,100 +54,14 @@ returns c =
     let k = open-refused q b 19 (open-19 q b (λ z. c .before .if1 .taken (c .before .before .fault .ensures ∙ z))) (λ z. omega arith) in
     (c .refused .ensures ∙ ap (refusedWith 19) (zeros (c .before .before .before)) ∙ k .0, k .1)
 
-rooms-of-requires : tie.Need-rooms-of-requires
-rooms-of-requires c κs = search needs
+room-number-requires : tie.Need-room-number-requires
+room-number-requires c κs = search needs
 
 refused-requires-2 : tie.Need-refused-requires-2
 refused-requires-2 c κs = search needs
 
-returns-2 : tie.Need-returns-2
-returns-2 c =
-    let a = c .before .before .before .before .before .before .before .before .before .before .before .before .args in
-    let q = a .plan in
-    let b = storeOf (a .constants .now) (a .copies .now) (a .scratch .now) (a .tables .now) in
-    let k = open-refused q b 10 (open-10 q b (fine (c .before .before .before .before)) (short-constants q b (omega (arith, c .before .if2 .taken, c .before .before .before .rooms-of .ensures .constants-are)))) (λ z. omega arith) in
-    (c .refused2 .ensures ∙ ap (refusedWith 10) (zeros (c .before .before .before .before .before .before)) ∙ k .0, k .1)
-
-refused-requires-3 : tie.Need-refused-requires-3
-refused-requires-3 c κs = search needs
-
-returns-3 : tie.Need-returns-3
-returns-3 c =
-    let a = c .before .before .before .before .before .before .before .before .before .before .before .before .before .before .args in
-    let q = a .plan in
-    let b = storeOf (a .constants .now) (a .copies .now) (a .scratch .now) (a .tables .now) in
-    let k = open-refused q b 10 (open-10 q b (fine (c .before .before .before .before .before .before)) (short-copies q b (omega (arith, c .before .before .before .if2 .left, c .before .before .before .before .before .rooms-of .ensures .constants-are)) (omega (arith, c .before .if3 .taken, c .before .before .before .before .before .rooms-of .ensures .copies-are)))) (λ z. omega arith) in
-    (c .refused3 .ensures ∙ ap (refusedWith 10) (zeros (c .before .before .before .before .before .before .before .before)) ∙ k .0, k .1)
-
-refused-requires-4 : tie.Need-refused-requires-4
-refused-requires-4 c κs = search needs
-
-returns-4 : tie.Need-returns-4
-returns-4 c =
-    let a = c .before .before .before .before .before .before .before .before .before .before .before .before .before .before .before .before .args in
-    let q = a .plan in
-    let b = storeOf (a .constants .now) (a .copies .now) (a .scratch .now) (a .tables .now) in
-    let k = open-refused q b 10 (open-10 q b (fine (c .before .before .before .before .before .before .before .before)) (short-scratch q b (omega (arith, c .before .before .before .before .before .if2 .left, c .before .before .before .before .before .before .before .rooms-of .ensures .constants-are)) (omega (arith, c .before .before .before .if3 .left, c .before .before .before .before .before .before .before .rooms-of .ensures .copies-are)) (omega (arith, c .before .if4 .taken, c .before .before .before .before .before .before .before .rooms-of .ensures .scratch-is)))) (λ z. omega arith) in
-    (c .refused4 .ensures ∙ ap (refusedWith 10) (zeros (c .before .before .before .before .before .before .before .before .before .before)) ∙ k .0, k .1)
-
-refused-requires-5 : tie.Need-refused-requires-5
-refused-requires-5 c κs = search needs
-
-returns-5 : tie.Need-returns-5
-returns-5 c =
-    let a = c .before .before .before .before .before .before .before .before .before .before .before .before .before .before .before .before .before .before .args in
-    let q = a .plan in
-    let b = storeOf (a .constants .now) (a .copies .now) (a .scratch .now) (a .tables .now) in
-    let k = open-refused q b 10 (open-10 q b (fine (c .before .before .before .before .before .before .before .before .before .before)) (short-tables q b (omega (arith, c .before .before .before .before .before .before .before .if2 .left, c .before .before .before .before .before .before .before .before .before .rooms-of .ensures .constants-are)) (omega (arith, c .before .before .before .before .before .if3 .left, c .before .before .before .before .before .before .before .before .before .rooms-of .ensures .copies-are)) (omega (arith, c .before .before .before .if4 .left, c .before .before .before .before .before .before .before .before .before .rooms-of .ensures .scratch-is)) (omega (arith, c .before .if5 .taken, c .before .before .before .before .before .before .before .before .before .rooms-of .ensures .tables-are)))) (λ z. omega arith) in
-    (c .refused5 .ensures ∙ ap (refusedWith 10) (zeros (c .before .before .before .before .before .before .before .before .before .before .before .before)) ∙ k .0, k .1)
-
-fill-labels-requires : tie.Need-fill-labels-requires
-fill-labels-requires c κs = search needs
-
--- with the ranges and the room that opening has tested, the labels' number is the search's
-fill-is : (n k : ℕ) (copies : List ℕ) → rangesFit n k ≡ true → k * n ≤ length copies → fillNumber n k copies ≡ searchNumber n k
-unfolding fillNumber
-fill-is n k copies r h = rw (r, le-leb (k * n) (length copies) h)
-
--- opening's number is the labels'
-number-is : (c : tie.After-fill-labels) → let a = c .before .before .before .before .before .before .before .before .before .before .before .before .before .before .before .before .before .before .before .args in openNumber (settingOf (a .plan)) (storeOf (a .constants .now) (a .copies .now) (a .scratch .now) (a .tables .now)) ≡ c .fill-labels .result
-number-is c =
-    let a = c .before .before .before .before .before .before .before .before .before .before .before .before .before .before .before .before .before .before .before .args in
-    let q = a .plan in
-    let b = storeOf (a .constants .now) (a .copies .now) (a .scratch .now) (a .tables .now) in
-    let l = long (c .before .before .before .before .before .before .before .before .before .before .before .before .before .before .before .before .before .before .before) in
-    let w = sound q (fine (c .before .before .before .before .before .before .before .before .before .before .before)) (omega arith) in
-    let m : copyRoom (settingOf q) ≤ length (a .copies .now) = (omega (arith, c .before .before .before .before .before .before .if3 .left, c .before .before .before .before .before .before .before .before .before .before .rooms-of .ensures .copies-are)) in
-    open-own q b (fine (c .before .before .before .before .before .before .before .before .before .before .before)) (long-enough q b (omega (arith, c .before .before .before .before .before .before .before .before .if2 .left, c .before .before .before .before .before .before .before .before .before .before .rooms-of .ensures .constants-are)) m (omega (arith, c .before .before .before .before .if4 .left, c .before .before .before .before .before .before .before .before .before .before .rooms-of .ensures .scratch-is)) (omega (arith, c .before .before .if5 .left, c .before .before .before .before .before .before .before .before .before .before .rooms-of .ensures .tables-are)))
-    ∙ sym (c .fill-labels .ensures .0 ∙ fill-is (q .trace) (q .copy) (a .copies .now) (w .ranges-fit-too) m)
-
-refused-requires-6 : tie.Need-refused-requires-6
-refused-requires-6 c κs = search needs
-
 same-length : tie.Need-same-length
 same-length c = search needs
-
-returns-6 : tie.Need-returns-6
-returns-6 c =
-    let a = c .before .before .before .before .before .before .before .before .before .before .before .before .before .before .before .before .before .before .before .before .before .before .before .args in
-    let q = a .plan in
-    let b = storeOf (a .constants .now) (a .copies .now) (a .scratch .now) (a .tables .now) in
-    let f = c .before .before .before .before .fill-labels in
-    let k = open-refused q b (f .result) (number-is (c .before .before .before .before)) (c .before .if6 .taken) in
-    let kept = f .ensures .1 ∙ written-refused (q .trace) (q .copy) (a .copies .now) (λ z. c .before .if6 .taken (f .ensures .0 ∙ z)) in
-    (c .refused6 .ensures ∙ ap (refusedWith (f .result)) (zeros (c .before .before .before .before .before .before .before .before .before .before .before .before .before .before .before .before .before)) ∙ k .0, ap (λ (y : List ℕ). storeOf (a .constants .now) y (a .scratch .now) (a .tables .now)) kept ∙ k .1)
-
-clear-requires : tie.Need-clear-requires
-clear-requires c κs = search needs
-
-clear-requires-2 : tie.Need-clear-requires-2
-clear-requires-2 c κs = search needs
-
-clear-requires-3 : tie.Need-clear-requires-3
-clear-requires-3 c κs = search needs
-
-start-requires-2 : tie.Need-start-requires-2
-start-requires-2 c κs = search needs
 
 same-length-2 : tie.Need-same-length-2
 same-length-2 c = search needs
@@ -161,8 +72,105 @@ same-length-3 c = search needs
 same-length-4 : tie.Need-same-length-4
 same-length-4 c = search needs
 
+returns-2 : tie.Need-returns-2
+returns-2 c =
+    let a = c .before .before .before .before .before .before .before .before .before .before .before .before .before .before .before .args in
+    let q = a .plan in
+    let b = storeOf (a .constants .now) (a .copies .now) (a .scratch .now) (a .tables .now) in
+    let r = c .before .before .room-number in
+    let h = short-room (roomToOpen (settingOf q) b) (r .result) (r .ensures) (c .before .if2 .taken) in
+    let k = open-refused q b (r .result) (open-10 q b (fine (c .before .before .before .before .before .before .before)) (h .0) ∙ sym (h .1)) (c .before .if2 .taken) in
+    (c .refused2 .ensures ∙ ap (refusedWith (r .result)) (zeros (c .before .before .before .before .before .before .before .before .before)) ∙ k .0, k .1)
+
+-- every buffer has its named words
+room : (c : tie.Else2) → let a = c .before .before .before .before .before .before .before .before .before .before .before .before .before .before .args in roomToOpen (settingOf (a .plan)) (storeOf (a .constants .now) (a .copies .now) (a .scratch .now) (a .tables .now)) ≡ true
+room c =
+    let a = c .before .before .before .before .before .before .before .before .before .before .before .before .before .before .args in
+    let q = a .plan in
+    let b = storeOf (a .constants .now) (a .copies .now) (a .scratch .now) (a .tables .now) in
+    long-room (roomToOpen (settingOf q) b) (c .before .room-number .result) (c .before .room-number .ensures) (c .if2 .left)
+
+fill-labels-requires : tie.Need-fill-labels-requires
+fill-labels-requires c κs = search needs
+
+-- with the ranges and the room that opening has tested, the labels' number is the search's
+fill-is : (n k : ℕ) (copies : List ℕ) → rangesFit n k ≡ true → k * n ≤ length copies → fillNumber n k copies ≡ searchNumber n k
+unfolding fillNumber
+fill-is n k copies r h = rw (r, le-leb (k * n) (length copies) h)
+
+-- opening's number is the labels'
+number-is : (c : tie.After-fill-labels) → let a = c .before .before .before .before .before .before .before .before .before .before .before .before .before .before .before .before .args in openNumber (settingOf (a .plan)) (storeOf (a .constants .now) (a .copies .now) (a .scratch .now) (a .tables .now)) ≡ c .fill-labels .result
+number-is c =
+    let a = c .before .before .before .before .before .before .before .before .before .before .before .before .before .before .before .before .args in
+    let q = a .plan in
+    let b = storeOf (a .constants .now) (a .copies .now) (a .scratch .now) (a .tables .now) in
+    let l = long (c .before .before .before .before .before .before .before .before .before .before .before .before .before .before .before .before) in
+    let w = sound q (fine (c .before .before .before .before .before .before .before .before)) (omega arith) in
+    open-own q b (fine (c .before .before .before .before .before .before .before .before)) (room (c .before .before)) ∙ sym (c .fill-labels .ensures .0 ∙ fill-is (q .trace) (q .copy) (a .copies .now) (w .ranges-fit-too) (opened-long q b (room (c .before .before)) .1))
+
+refused-requires-3 : tie.Need-refused-requires-3
+refused-requires-3 c κs = search needs
+
 same-length-5 : tie.Need-same-length-5
 same-length-5 c = search needs
+
+same-length-6 : tie.Need-same-length-6
+same-length-6 c = search needs
+
+same-length-7 : tie.Need-same-length-7
+same-length-7 c = search needs
+
+same-length-8 : tie.Need-same-length-8
+same-length-8 c = search needs
+
+returns-3 : tie.Need-returns-3
+returns-3 c =
+    let a = c .before .before .before .before .before .before .before .before .before .before .before .before .before .before .before .before .before .before .before .before .args in
+    let q = a .plan in
+    let b = storeOf (a .constants .now) (a .copies .now) (a .scratch .now) (a .tables .now) in
+    let f = c .before .before .before .before .fill-labels in
+    let k = open-refused q b (f .result) (number-is (c .before .before .before .before)) (c .before .if3 .taken) in
+    let kept = f .ensures .1 ∙ written-refused (q .trace) (q .copy) (a .copies .now) (λ z. c .before .if3 .taken (f .ensures .0 ∙ z)) in
+    (c .refused3 .ensures ∙ ap (refusedWith (f .result)) (zeros (c .before .before .before .before .before .before .before .before .before .before .before .before .before .before)) ∙ k .0, ap (λ (y : List ℕ). storeOf (a .constants .now) y (a .scratch .now) (a .tables .now)) kept ∙ k .1)
+
+rooms-of-requires : tie.Need-rooms-of-requires
+rooms-of-requires c κs = fine (c .before .before .before .before .before .before .before .before .before .before .before)
+
+clear-requires : tie.Need-clear-requires
+clear-requires c κs =
+    let a = c .before .before .before .before .before .before .before .before .before .before .before .before .before .before .before .before .before .before .before .before .before .args in
+    let q = a .plan in
+    let b = storeOf (a .constants .now) (a .copies .now) (a .scratch .now) (a .tables .now) in
+    omega (arith, opened-long q b (room (c .before .before .before .before .before .before .before)) .0, c .before .rooms-of .ensures .constants-are)
+
+clear-requires-2 : tie.Need-clear-requires-2
+clear-requires-2 c κs =
+    let a = c .before .before .before .before .before .before .before .before .before .before .before .before .before .before .before .before .before .before .before .before .before .before .before .before .before .args in
+    let q = a .plan in
+    let b = storeOf (a .constants .now) (a .copies .now) (a .scratch .now) (a .tables .now) in
+    omega (arith, opened-long q b (room (c .before .before .before .before .before .before .before .before .before .before .before)) .2, c .before .before .before .before .before .rooms-of .ensures .scratch-is)
+
+clear-requires-3 : tie.Need-clear-requires-3
+clear-requires-3 c κs =
+    let a = c .before .before .before .before .before .before .before .before .before .before .before .before .before .before .before .before .before .before .before .before .before .before .before .before .before .before .before .before .before .args in
+    let q = a .plan in
+    let b = storeOf (a .constants .now) (a .copies .now) (a .scratch .now) (a .tables .now) in
+    omega (arith, opened-long q b (room (c .before .before .before .before .before .before .before .before .before .before .before .before .before .before .before)) .3, c .before .before .before .before .before .before .before .before .before .rooms-of .ensures .tables-are)
+
+start-requires-2 : tie.Need-start-requires-2
+start-requires-2 c κs = search needs
+
+same-length-9 : tie.Need-same-length-9
+same-length-9 c = search needs
+
+same-length-10 : tie.Need-same-length-10
+same-length-10 c = search needs
+
+same-length-11 : tie.Need-same-length-11
+same-length-11 c = search needs
+
+same-length-12 : tie.Need-same-length-12
+same-length-12 c = search needs
 
 four : {a a' b b' s s' t t' : List ℕ} → a ≡ a' → b ≡ b' → s ≡ s' → t ≡ t' → storeOf a b s t ≡ storeOf a' b' s' t'
 four e f g h = cc
@@ -170,15 +178,15 @@ four e f g h = cc
 as-taken : {s s' : Intake} → s ≡ s' → refusedWith 0 s ≡ refusedWith 0 s'
 as-taken e = ap (refusedWith 0) e
 
-returns-7 : tie.Need-returns-7
-returns-7 c =
-    let a = c .before .before .before .before .before .before .before .before .before .before .before .before .before .before .before .before .before .before .before .before .before .before .before .before .before .before .before .before .before .before .before .before .before .before .before .args in
+returns-4 : tie.Need-returns-4
+returns-4 c =
+    let a = c .before .before .before .before .before .before .before .before .before .before .before .before .before .before .before .before .before .before .before .before .before .before .before .before .before .before .before .before .before .before .before .before .before .args in
     let q = a .plan in
     let b = storeOf (a .constants .now) (a .copies .now) (a .scratch .now) (a .tables .now) in
-    let f = c .before .before .before .before .before .before .before .before .before .before .before .before .before .before .before .before .fill-labels in
-    let r = c .before .before .before .before .before .before .before .before .before .before .before .before .before .before .before .before .before .before .before .before .before .before .before .before .before .before .rooms-of .ensures in
-    let k = open-taken q b (number-is (c .before .before .before .before .before .before .before .before .before .before .before .before .before .before .before .before) ∙ c .before .before .before .before .before .before .before .before .before .before .before .before .before .if6 .left) in
-    let labelled = f .ensures .1 ∙ written-is (q .trace) (q .copy) (a .copies .now) (sym (f .ensures .0) ∙ c .before .before .before .before .before .before .before .before .before .before .before .before .before .if6 .left) in (
+    let f = c .before .before .before .before .before .before .before .before .before .before .before .before .before .before .before .before .before .fill-labels in
+    let r = c .before .before .before .before .before .before .before .before .before .before .before .before .before .rooms-of .ensures in
+    let k = open-taken q b (number-is (c .before .before .before .before .before .before .before .before .before .before .before .before .before .before .before .before .before) ∙ c .before .before .before .before .before .before .before .before .before .before .before .before .before .before .if3 .left) in
+    let labelled = f .ensures .1 ∙ written-is (q .trace) (q .copy) (a .copies .now) (sym (f .ensures .0) ∙ c .before .before .before .before .before .before .before .before .before .before .before .before .before .before .if3 .left) in (
       as-taken (c .start2 .ensures) ∙ k .0,
       four (c .before .before .before .before .before .before .before .before .before .before .before .clear .ensures ∙ ap (λ (n : ℕ). cleared n (a .constants .now)) (r .constants-are)) labelled (c .before .before .before .before .before .before .before .clear2 .ensures ∙ ap (λ (n : ℕ). cleared n (a .scratch .now)) (r .scratch-is)) (c .before .before .before .clear3 .ensures ∙ ap (λ (n : ℕ). cleared n (a .tables .now)) (r .tables-are)) ∙ k .1,
     )
@@ -192,25 +200,27 @@ open-spec =
     fault-requires
     refused-requires
     returns
-    rooms-of-requires
+    room-number-requires
     refused-requires-2
-    returns-2
-    refused-requires-3
-    returns-3
-    refused-requires-4
-    returns-4
-    refused-requires-5
-    returns-5
-    fill-labels-requires
-    refused-requires-6
     same-length
-    returns-6
+    same-length-2
+    same-length-3
+    same-length-4
+    returns-2
+    fill-labels-requires
+    refused-requires-3
+    same-length-5
+    same-length-6
+    same-length-7
+    same-length-8
+    returns-3
+    rooms-of-requires
     clear-requires
     clear-requires-2
     clear-requires-3
     start-requires-2
-    same-length-2
-    same-length-3
-    same-length-4
-    same-length-5
-    returns-7)
+    same-length-9
+    same-length-10
+    same-length-11
+    same-length-12
+    returns-4)

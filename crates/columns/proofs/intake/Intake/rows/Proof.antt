@@ -1,25 +1,21 @@
 -- `columns::intake::Intake::rows` meets its contract: 19, 10, the first faulty record, then the rows written and their gates marked.
 -- Assumes nothing.
 use borrow.Author.Needs.{needs}
-use mathlib.Core.Path.{_≡_, refl, sym, ap, _∙_}
-use mathlib.Core.Logic.{_≢_}
+use mathlib.Core.Path.{_≡_, sym, _∙_}
 use mathlib.Core.Bool.{true}
 use native.Mathlib.Omega.{arith}
 use native.Mathlib.Nat.{mul-le-mul}
-use Prim.Native.Nat.{ℕ, _+_, _*_, _<_, _≤_}
+use Prim.Native.Nat.{ℕ, _*_, _≤_}
 use lib.ListN.{length, getD}
-use Rattle.pieces.specs.Setting.{cols, stands, constantRoom, copyRoom, specialRoom}
+use Rattle.pieces.specs.Setting.{stands}
 use Rattle.pieces.specs.NumberLaws.{Stood, stood}
 use Rattle.columns.specs.Intake.{settingOf, stateOf}
 use Rattle.columns.specs.PlanLaws.{Sound, sound}
-use mathlib.Core.List.{List}
 use Rattle.selector.specs.Gates.{constantsOf}
 use Rattle.tree.specs.Plan.{gatesGiven, planExtra, planPath}
-use Rattle.pieces.specs.Setting.{State}
 use Rattle.pieces.specs.Records.{rowsOf}
-use Rattle.pieces.specs.Rows.{rowsFault, rowsNumber, rowsWritten, rowsState}
+use Rattle.pieces.specs.Rows.{rowsFault, rowsNumber, rowsWritten}
 use Rattle.pieces.specs.FaultLaws.{rows-own-same}
-use Rattle.columns.specs.Placed.{GatesOf}
 use Rattle.columns.specs.IntakeLaws.{plan-fine, rows-19, rows-10, rows-own, rows-refused, rows-taken}
 use borrow.Author.Needs.{needs}
 use Rattle.columns.proofs.intake.Intake.rows.Statement.{statement}

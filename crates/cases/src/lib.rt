@@ -1,0 +1,1 @@
+// 01, 'Worked circuits': facts about the rules, no code.
