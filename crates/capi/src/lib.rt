@@ -5,6 +5,7 @@ ghost use Rattle.capi.specs.Encoding.{planLength, stateLength};
 
 mod encoding;
 pub mod intake;
+pub mod listed;
 pub mod planning;
 
 // How many words a plan has.
