@@ -2,9 +2,9 @@
 -- Assumes nothing.
 use borrow.Author.Needs.{needs}
 use mathlib.Core.Path.{_∙_}
-use Rattle.capi.specs.EncodingLaws.{handed-front, handed-short}
-use Rattle.capi.proofs.encoding.hand.Statement.{statement}
-use Rattle.capi.proofs.encoding.hand.Tie as tie
+use Rattle.encoding.specs.EncodingLaws.{handed-front, handed-short}
+use Rattle.encoding.proofs.encoding.hand.Statement.{statement}
+use Rattle.encoding.proofs.encoding.hand.Tie as tie
 
 copy-words-requires : tie.Need-copy-words-requires
 copy-words-requires c κs = search needs
