@@ -2,6 +2,8 @@
 // length. The answer is 0 or 01's refusal number.
 ghost use mathlib.Core.Path.{_≡_};
 ghost use Rattle.encoding.specs.Encoding.{planLength, stateLength};
+use encoding::encoding::PLAN_WORDS;
+use encoding::encoding::STATE_WORDS;
 
 pub mod intake;
 pub mod listed;
@@ -12,7 +14,7 @@ pub mod planning;
 pub extern "C" fn setup_plan_words() -> u64
     ensures { λ r. ⌜ r ≡ planLength ⌝ }
 {
-    encoding::encoding::PLAN_WORDS as u64
+    PLAN_WORDS as u64
 }
 
 // How many words a state has.
@@ -20,5 +22,5 @@ pub extern "C" fn setup_plan_words() -> u64
 pub extern "C" fn setup_state_words() -> u64
     ensures { λ r. ⌜ r ≡ stateLength ⌝ }
 {
-    encoding::encoding::STATE_WORDS as u64
+    STATE_WORDS as u64
 }

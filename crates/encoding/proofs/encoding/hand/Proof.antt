@@ -2,6 +2,7 @@
 -- Assumes nothing.
 use borrow.Author.Needs.{needs}
 use mathlib.Core.Path.{_∙_}
+use native.Mathlib.Omega.{arith}
 use Rattle.encoding.specs.EncodingLaws.{handed-front, handed-short}
 use Rattle.encoding.proofs.encoding.hand.Statement.{statement}
 use Rattle.encoding.proofs.encoding.hand.Tie as tie
@@ -13,10 +14,10 @@ same-length : tie.Need-same-length
 same-length c = search needs
 
 returns : tie.Need-returns
-returns c = c .before .before .copy-words .ensures ∙ handed-front (c .before .before .before .before .before .before .before .args .words .now) (c .before .before .before .before .before .before .before .args .out .now) (c .before .before .before .before .if1 .taken)
+returns c = c .before .before .copy-words .ensures ∙ handed-front (c .before .before .before .before .before .before .before .args .words .now) (c .before .before .before .before .before .before .before .args .out .now) (omega (arith, c .before .before .before .before .if1 .taken))
 
 returns-2 : tie.Need-returns-2
-returns-2 c = handed-short (c .before .before .before .args .words .now) (c .before .before .before .args .out .now) (c .if1 .left)
+returns-2 c = handed-short (c .before .before .before .args .words .now) (c .before .before .before .args .out .now) (omega (arith, c .if1 .left))
 
 pub hand-spec : {M : Type 1} → statement M
 hand-spec = tie.close (tie.spec copy-words-requires same-length returns returns-2)

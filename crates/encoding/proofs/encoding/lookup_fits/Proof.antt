@@ -7,8 +7,7 @@ use Rattle.encoding.proofs.encoding.lookup_fits.Tie as tie
 
 returns : tie.Need-returns
 unfolding lookupFits
-returns c =
-    simp (lt-leb _ _ (c .if1 .taken))
+returns c = simp (lt-leb (c .before .args .mode) 4 (c .if1 .taken))
 
 returns-2 : tie.Need-returns-2
 unfolding lookupFits
