@@ -37,8 +37,8 @@ use Rattle.tree.specs.Plan.{parametersOf, planFault, planNumber, planWith, plan
 use Rattle.tree.specs.PlanLaws.{words-accepted}
 use Rattle.tree.specs.Shapes.{shapeOf}
 use Rattle.tree.specs.declared.plan.Plan.{Plan}
-use Rattle.capi.specs.Encoding.{handed, intakeOf, intakeWords, lookupFits, parametersAt, planLength, planOf, planWords, stateLength}
-use Rattle.capi.specs.EncodingLaws.{plan-back, plan-none, plan-other, plan-read, state-back, state-length, state-other, state-read}
+use Rattle.encoding.specs.Encoding.{handed, intakeOf, intakeWords, lookupFits, parametersAt, planLength, planOf, planWords, stateLength}
+use Rattle.encoding.specs.EncodingLaws.{plan-back, plan-none, plan-other, plan-read, state-back, state-length, state-other, state-read}
 use Rattle.capi.specs.Intake.{openedState, stateAfter}
 use Rattle.capi.specs.IntakeLaws.{state-given, state-kept}
 use Rattle.capi.specs.Planning.{parameterCount, planLeft}

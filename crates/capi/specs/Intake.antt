@@ -11,7 +11,7 @@ use Rattle.columns.specs.Intake.{openAnswer, openLeft}
 use Rattle.columns.specs.declared.intake.Taken.{Taken}
 use Rattle.pieces.specs.Setting.{Store}
 use Rattle.tree.specs.Plan.{planFault}
-use Rattle.capi.specs.Encoding.{handed, intakeWords, planOf, stateLength}
+use Rattle.encoding.specs.Encoding.{handed, intakeWords, planOf, stateLength}
 
 -- "Open: 19; 10; 9 candidates reach p." The state's slice is tested just before the columns.
 unfoldable pub openCall : List ℕ → List ℕ → Store → ℕ

@@ -20,8 +20,8 @@ use Rattle.pieces.specs.Opening.{openNumber, openState, zeroState}
 use Rattle.pieces.specs.Setting.{Store}
 use Rattle.tree.specs.Plan.{planFault, zeroPlan}
 use Rattle.tree.specs.declared.plan.Plan.{Plan}
-use Rattle.capi.specs.Encoding.{handed, intakeOf, intakeWords, planOf, stateLength}
-use Rattle.capi.specs.EncodingLaws.{handed-short, state-length}
+use Rattle.encoding.specs.Encoding.{handed, intakeOf, intakeWords, planOf, stateLength}
+use Rattle.encoding.specs.EncodingLaws.{handed-short, state-length}
 use Rattle.capi.specs.Intake.{openCall, openedState, openedStore, stateAfter}
 
 -- ---- the state's words after a call

@@ -11,7 +11,7 @@ use Rattle.labels.specs.Labels.{labelAnswer, labelNumber}
 use Rattle.tree.specs.Plan.{pathAnswer, planFault, planNumber, planned, tableIdAnswer}
 use Rattle.tree.specs.declared.plan.Plan.{Plan}
 use Rattle.tree.specs.declared.plan.TableId.{TableId}
-use Rattle.capi.specs.Encoding.{handed, parametersAt, planLength, planOf, planWords}
+use Rattle.encoding.specs.Encoding.{handed, parametersAt, planLength, planOf, planWords}
 
 -- how many parameter words there are; any other number is 20, "wrong parameter count"
 abbrev pub parameterCount : ℕ

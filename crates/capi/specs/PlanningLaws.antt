@@ -17,8 +17,8 @@ use Rattle.tree.specs.Plan.{pathAnswer, planAnswer, planNumber, planned}
 use Rattle.tree.specs.declared.plan.Path.{Path}
 use Rattle.tree.specs.declared.plan.Plan.{Plan}
 use Rattle.tree.specs.declared.planning.Planned.{Planned}
-use Rattle.capi.specs.Encoding.{handed, parametersAt, planLength, planOf, planWords}
-use Rattle.capi.specs.EncodingLaws.{handed-long, handed-short, plan-length}
+use Rattle.encoding.specs.Encoding.{handed, parametersAt, planLength, planOf, planWords}
+use Rattle.encoding.specs.EncodingLaws.{handed-long, handed-short, plan-length}
 use Rattle.capi.specs.Planning.{handLeft, handNumber, labelCall, labelLeft, parameterCount, pathCall, pathLeft, planCall, planLeft, withRoom}
 
 -- ---- planning

@@ -3,14 +3,14 @@
 ghost use mathlib.Core.Path.{_≡_};
 ghost use Rattle.pieces.specs.Setting.{cols};
 ghost use Rattle.columns.specs.Intake.{storeOf, rowsAnswer, rowsLeft, sWordsAnswer, sWordsLeft, cellsAnswer, cellsLeft, tablesAnswer, tablesLeft, finishAnswer, finishLeft};
-ghost use Rattle.capi.specs.Encoding.{intakeOf};
+ghost use Rattle.encoding.specs.Encoding.{intakeOf};
 ghost use Rattle.capi.specs.Intake.{openCall, openedState, openedStore, stateAfter};
-use crate::encoding::STATE_WORDS;
-use crate::encoding::decode_plan;
-use crate::encoding::decode_state;
-use crate::encoding::encode_state;
 use columns::intake::Intake;
 use columns::intake::Taken;
+use encoding::encoding::STATE_WORDS;
+use encoding::encoding::decode_plan;
+use encoding::encoding::decode_state;
+use encoding::encoding::encode_state;
 
 // The number of a call; the state's words are written where it is accepted.
 fn give_back(taken: Taken, state: &mut [u64]) -> u64

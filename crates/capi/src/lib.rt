@@ -1,9 +1,10 @@
 // Functions for callers in C and Rust. Each takes any words at all; slices pass as pointer and
 // length. The answer is 0 or 01's refusal number.
 ghost use mathlib.Core.Path.{_≡_};
-ghost use Rattle.capi.specs.Encoding.{planLength, stateLength};
+ghost use Rattle.encoding.specs.Encoding.{planLength, stateLength};
+use encoding::encoding::PLAN_WORDS;
+use encoding::encoding::STATE_WORDS;
 
-mod encoding;
 pub mod intake;
 pub mod listed;
 pub mod planning;
@@ -13,7 +14,7 @@ pub mod planning;
 pub extern "C" fn setup_plan_words() -> u64
     ensures { λ r. ⌜ r ≡ planLength ⌝ }
 {
-    encoding::PLAN_WORDS as u64
+    PLAN_WORDS as u64
 }
 
 // How many words a state has.
@@ -21,5 +22,5 @@ pub extern "C" fn setup_plan_words() -> u64
 pub extern "C" fn setup_state_words() -> u64
     ensures { λ r. ⌜ r ≡ stateLength ⌝ }
 {
-    encoding::STATE_WORDS as u64
+    STATE_WORDS as u64
 }

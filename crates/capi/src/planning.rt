@@ -2,11 +2,11 @@
 // themselves.
 ghost use mathlib.Core.Path.{_≡_};
 ghost use Rattle.capi.specs.Planning.{planCall, planLeft, withRoom, pathCall, pathLeft, handNumber, handLeft, tableIdCall, tableIdLeft, statsCall, statsLeft, labelCall, labelLeft};
-use crate::encoding::PLAN_WORDS;
-use crate::encoding::decode_plan;
-use crate::encoding::encode_plan;
-use crate::encoding::hand;
-use crate::encoding::parameters_at;
+use encoding::encoding::PLAN_WORDS;
+use encoding::encoding::decode_plan;
+use encoding::encoding::encode_plan;
+use encoding::encoding::hand;
+use encoding::encoding::parameters_at;
 
 // 01 has 20 for a listing with a wrong parameter count; here it is a slice of another length.
 const PARAMETERS: usize = 8;

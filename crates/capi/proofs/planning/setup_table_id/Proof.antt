@@ -4,7 +4,7 @@ use borrow.Author.Needs.{needs}
 use mathlib.Core.Path.{_∙_, _≡_, ap}
 use Rattle.tree.specs.Plan.{tableIdAnswer}
 use Rattle.tree.specs.declared.plan.TableId.{TableId}
-use Rattle.capi.specs.Encoding.{planOf}
+use Rattle.encoding.specs.Encoding.{planOf}
 use Rattle.capi.specs.Planning.{handLeft, handNumber, idWords}
 use Rattle.capi.proofs.planning.setup_table_id.Statement.{statement}
 use Rattle.capi.proofs.planning.setup_table_id.Tie as tie

@@ -1,6 +1,6 @@
 -- `planning::with_room` meets its contract: the definition's tests, in its order.
 -- Assumes nothing.
-use borrow.Author.Tests.{eq-eqb, le-leb, le-ltb, lt-leb, lt-ltb, ne-eqb}
+use borrow.Author.Tests.{eq-eqb, le-leb, lt-leb, ne-eqb}
 use Rattle.capi.specs.Planning.{withRoom}
 use Rattle.capi.proofs.planning.with_room.Statement.{statement}
 use Rattle.capi.proofs.planning.with_room.Tie as tie
@@ -15,7 +15,6 @@ unfolding withRoom
 returns-2 c =
     simp (
       le-leb _ _ (c .if2 .taken),
-      le-ltb _ _ (c .if2 .taken),
       ne-eqb _ _ (c .before .if1 .left),
     )
 
@@ -23,7 +22,6 @@ returns-3 : tie.Need-returns-3
 unfolding withRoom
 returns-3 c =
     simp (
-      lt-ltb _ _ (c .if2 .left),
       lt-leb _ _ (c .if2 .left),
       ne-eqb _ _ (c .before .if1 .left),
     )

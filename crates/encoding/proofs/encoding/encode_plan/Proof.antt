@@ -5,10 +5,10 @@ use lib.ListN.{length, length-set}
 use mathlib.Core.Path.{_∙_, _≡_, ap}
 use native.Mathlib.Omega.{arith}
 use Rattle.parameters.specs.Lookup.{flagOf}
-use Rattle.capi.specs.Encoding.{planWords}
-use Rattle.capi.specs.EncodingLaws.{handed-short, plan-length, plan-written}
-use Rattle.capi.proofs.encoding.encode_plan.Statement.{statement}
-use Rattle.capi.proofs.encoding.encode_plan.Tie as tie
+use Rattle.encoding.specs.Encoding.{planWords}
+use Rattle.encoding.specs.EncodingLaws.{handed-short, plan-length, plan-written}
+use Rattle.encoding.proofs.encoding.encode_plan.Statement.{statement}
+use Rattle.encoding.proofs.encoding.encode_plan.Tie as tie
 
 -- the arrays of a plan by value have their lengths
 gates-long : (c : tie.Start) → length (c .args .plan .gates) ≡ 384

@@ -2,9 +2,9 @@
 -- Assumes nothing.
 use borrow.Author.Needs.{needs}
 use mathlib.Core.Path.{_∙_, sym}
-use Rattle.capi.specs.EncodingLaws.{plan-made, plan-none, plan-other}
-use Rattle.capi.proofs.encoding.decode_plan.Statement.{statement}
-use Rattle.capi.proofs.encoding.decode_plan.Tie as tie
+use Rattle.encoding.specs.EncodingLaws.{plan-made, plan-none, plan-other}
+use Rattle.encoding.proofs.encoding.decode_plan.Statement.{statement}
+use Rattle.encoding.proofs.encoding.decode_plan.Tie as tie
 
 zero-requires : tie.Need-zero-requires
 zero-requires c κs = search needs

@@ -6,9 +6,9 @@ use mathlib.Core.Path.{_∙_, ap, sym}
 use native.Mathlib.Omega.{arith}
 use Rattle.columns.specs.Intake.{startOf}
 use Rattle.tree.specs.declared.plan.Plan.{Plan}
-use Rattle.capi.specs.EncodingLaws.{state-made, state-other}
-use Rattle.capi.proofs.encoding.decode_state.Statement.{statement}
-use Rattle.capi.proofs.encoding.decode_state.Tie as tie
+use Rattle.encoding.specs.EncodingLaws.{state-made, state-other}
+use Rattle.encoding.proofs.encoding.decode_state.Statement.{statement}
+use Rattle.encoding.proofs.encoding.decode_state.Tie as tie
 
 zero-requires : tie.Need-zero-requires
 zero-requires c κs = search needs

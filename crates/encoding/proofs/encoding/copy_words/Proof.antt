@@ -6,8 +6,8 @@ use lib.Seq.{length-paste, paste, paste-suc, paste-zero}
 use mathlib.Core.Path.{_∙_, _≡_, ap}
 use native.Mathlib.Numerals.{add-one}
 use native.Mathlib.Omega.{arith}
-use Rattle.capi.proofs.encoding.copy_words.Statement.{statement}
-use Rattle.capi.proofs.encoding.copy_words.Tie as tie
+use Rattle.encoding.proofs.encoding.copy_words.Statement.{statement}
+use Rattle.encoding.proofs.encoding.copy_words.Tie as tie
 
 abbrev Inv-loop : tie.InvT-loop
 Inv-loop from at to₀ i₀ to i = (i ≤ length from) × (to ≡ paste to₀ at from i)

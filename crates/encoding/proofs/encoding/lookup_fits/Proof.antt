@@ -1,26 +1,20 @@
 -- `encoding::lookup_fits` meets its contract: the definition's tests, in its order.
 -- Assumes nothing.
-use borrow.Author.Tests.{eq-eqb, le-leb, le-ltb, lt-leb, lt-ltb, ne-eqb}
-use Rattle.capi.specs.Encoding.{lookupFits}
-use Rattle.capi.proofs.encoding.lookup_fits.Statement.{statement}
-use Rattle.capi.proofs.encoding.lookup_fits.Tie as tie
+use borrow.Author.Tests.{eq-eqb, le-leb, lt-leb, ne-eqb}
+use Rattle.encoding.specs.Encoding.{lookupFits}
+use Rattle.encoding.proofs.encoding.lookup_fits.Statement.{statement}
+use Rattle.encoding.proofs.encoding.lookup_fits.Tie as tie
 
 returns : tie.Need-returns
 unfolding lookupFits
-returns c =
-    simp (
-      lt-ltb _ _ (c .if1 .taken),
-      lt-leb _ _ (c .if1 .taken),
-    )
+returns c = simp (lt-leb (c .before .args .mode) 4 (c .if1 .taken))
 
 returns-2 : tie.Need-returns-2
 unfolding lookupFits
 returns-2 c =
     simp (
-      lt-ltb _ _ (c .if2 .taken),
       lt-leb _ _ (c .if2 .taken),
       le-leb _ _ (c .before .if1 .left),
-      le-ltb _ _ (c .before .if1 .left),
     )
 
 returns-3 : tie.Need-returns-3
@@ -30,9 +24,7 @@ returns-3 c =
       eq-eqb _ _ (c .if4 .taken),
       eq-eqb _ _ (c .before .if3 .taken),
       le-leb _ _ (c .before .before .if2 .left),
-      le-ltb _ _ (c .before .before .if2 .left),
       le-leb _ _ (c .before .before .before .if1 .left),
-      le-ltb _ _ (c .before .before .before .if1 .left),
     )
 
 returns-4 : tie.Need-returns-4
@@ -42,9 +34,7 @@ returns-4 c =
       ne-eqb _ _ (c .if4 .left),
       eq-eqb _ _ (c .before .if3 .taken),
       le-leb _ _ (c .before .before .if2 .left),
-      le-ltb _ _ (c .before .before .if2 .left),
       le-leb _ _ (c .before .before .before .if1 .left),
-      le-ltb _ _ (c .before .before .before .if1 .left),
     )
 
 returns-5 : tie.Need-returns-5
@@ -53,9 +43,7 @@ returns-5 c =
     simp (
       ne-eqb _ _ (c .if3 .left),
       le-leb _ _ (c .before .if2 .left),
-      le-ltb _ _ (c .before .if2 .left),
       le-leb _ _ (c .before .before .if1 .left),
-      le-ltb _ _ (c .before .before .if1 .left),
     )
 
 pub lookup-fits-spec : {M : Type 1} → statement M

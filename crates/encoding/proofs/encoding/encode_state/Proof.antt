@@ -4,10 +4,10 @@ use borrow.Author.Needs.{needs}
 use lib.ListN.{length, length-set}
 use mathlib.Core.Path.{_∙_, _≡_}
 use native.Mathlib.Omega.{arith}
-use Rattle.capi.specs.Encoding.{intakeWords}
-use Rattle.capi.specs.EncodingLaws.{handed-short, state-length, state-written}
-use Rattle.capi.proofs.encoding.encode_state.Statement.{statement}
-use Rattle.capi.proofs.encoding.encode_state.Tie as tie
+use Rattle.encoding.specs.Encoding.{intakeWords}
+use Rattle.encoding.specs.EncodingLaws.{handed-short, state-length, state-written}
+use Rattle.encoding.proofs.encoding.encode_state.Statement.{statement}
+use Rattle.encoding.proofs.encoding.encode_state.Tie as tie
 
 -- the arrays of a state by value have their lengths
 gates-long : (c : tie.Start) → length (c .args .state .plan .gates) ≡ 384

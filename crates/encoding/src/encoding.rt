@@ -1,10 +1,10 @@
 // Plans and states as words, in the order of their fields.
 ghost use mathlib.Core.Path.{_≡_};
 ghost use Prim.Native.Nat.{ℕ, _+_, _≤_};
-ghost use lib.ListN.{length};
+ghost use lib.ListN.{getD, length};
 ghost use lib.Seq.{paste};
 ghost use Rattle.parameters.specs.Lookup.{flagOf};
-ghost use Rattle.capi.specs.Encoding.{handed, intakeOf, intakeWords, lookupFits, parametersAt, planOf, planWords, zeroIntake};
+ghost use Rattle.encoding.specs.Encoding.{handed, intakeOf, intakeWords, lookupFits, parametersAt, planOf, planWords, zeroIntake};
 use columns::intake::Intake;
 use columns::intake::NEVER;
 use parameters::parameters::Parameters;
@@ -19,14 +19,14 @@ const NODES_START: usize = 393;
 
 const NODES_END: usize = 1158;
 
-pub(crate) const PLAN_WORDS: usize = 1162;
+pub const PLAN_WORDS: usize = 1162;
 
 // Where the parts of a state's words end: the plan, the counts, the marks, the phase.
 const COUNTS_END: usize = 1167;
 
 const USED_END: usize = 1295;
 
-pub(crate) const STATE_WORDS: usize = 1296;
+pub const STATE_WORDS: usize = 1296;
 
 // The words of a slice go into another, from `at` on.
 fn copy_words(from: &[u64], at: usize, to: &mut [u64])
@@ -41,7 +41,7 @@ fn copy_words(from: &[u64], at: usize, to: &mut [u64])
 }
 
 // Words go to the front of a result slice; one that is too short keeps all its words.
-pub(crate) fn hand(words: &[u64], out: &mut [u64])
+pub fn hand(words: &[u64], out: &mut [u64])
     ensures { λ _. ⌜ now (out .exit) ≡ handed (now (words .entry)) (now (out .entry)) ⌝ }
 {
     if words.len() <= out.len() {
@@ -49,20 +49,29 @@ pub(crate) fn hand(words: &[u64], out: &mut [u64])
     }
 }
 
-// The eight parameter words.
-pub(crate) fn parameters_at(words: &[u64]) -> Parameters
-    requires { ⌜ 8 ≤ length (now words) ⌝ }
+// The word at a place, 0 past the end.
+fn word_or_zero(words: &[u64], at: usize) -> u64
+    ensures { λ r. ⌜ r ≡ getD (now (words .entry)) at 0 ⌝ }
+{
+    if at < words.len() {
+        return words[at];
+    }
+    0
+}
+
+// The eight parameter words; one that is missing is 0.
+pub fn parameters_at(words: &[u64]) -> Parameters
     ensures { λ r. ⌜ r ≡ parametersAt (now (words .entry)) ⌝ }
 {
     Parameters {
-        trace: words[0],
-        copy: words[1],
-        allowed: words[2],
-        specialised: words[3],
-        variables: words[4],
-        mode: words[5],
-        width: words[6],
-        share: words[7],
+        trace: word_or_zero(words, 0),
+        copy: word_or_zero(words, 1),
+        allowed: word_or_zero(words, 2),
+        specialised: word_or_zero(words, 3),
+        variables: word_or_zero(words, 4),
+        mode: word_or_zero(words, 5),
+        width: word_or_zero(words, 6),
+        share: word_or_zero(words, 7),
     }
 }
 
@@ -96,7 +105,7 @@ fn flag_of(share: bool) -> u64
 }
 
 // The plan that the words encode; words that encode none, or are not as many, are a plan of zeros.
-pub(crate) fn decode_plan(words: &[u64]) -> Plan
+pub fn decode_plan(words: &[u64]) -> Plan
     ensures { λ r. ⌜ r ≡ planOf (now (words .entry)) ⌝ }
 {
     if words.len() != PLAN_WORDS {
@@ -128,7 +137,7 @@ pub(crate) fn decode_plan(words: &[u64]) -> Plan
 }
 
 // The words of a plan go to the front of a slice; one that is too short keeps all its words.
-pub(crate) fn encode_plan(plan: Plan, words: &mut [u64])
+pub fn encode_plan(plan: Plan, words: &mut [u64])
     ensures { λ _. ⌜ now (words .exit) ≡ handed (planWords plan) (now (words .entry)) ⌝ }
 {
     if words.len() < PLAN_WORDS {
@@ -156,7 +165,7 @@ pub(crate) fn encode_plan(plan: Plan, words: &mut [u64])
 }
 
 // The state that the words encode; of another number of words a state of zeros.
-pub(crate) fn decode_state(words: &[u64]) -> Intake
+pub fn decode_state(words: &[u64]) -> Intake
     ensures { λ r. ⌜ r ≡ intakeOf (now (words .entry)) ⌝ }
 {
     let mut used = [0; 128];
@@ -186,7 +195,7 @@ pub(crate) fn decode_state(words: &[u64]) -> Intake
 }
 
 // The words of a state go to the front of a slice; one that is too short keeps all its words.
-pub(crate) fn encode_state(state: Intake, words: &mut [u64])
+pub fn encode_state(state: Intake, words: &mut [u64])
     ensures { λ _. ⌜ now (words .exit) ≡ handed (intakeWords state) (now (words .entry)) ⌝ }
 {
     if words.len() < STATE_WORDS {

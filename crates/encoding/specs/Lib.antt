@@ -1,0 +1,4 @@
+-- Plans and states as words.
+pub mod Encoding
+pub mod EncodingLaws
+mod Examples

@@ -1,0 +1,2 @@
+// Plans and states as words, for callers that hold them in buffers.
+pub mod encoding;
