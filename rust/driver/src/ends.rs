@@ -1,9 +1,11 @@
 //! Document 01's "Run only" cases: the ends of what is taken.
+use crate::beside_original;
 use crate::circuit::{Circuit, PLACEHOLDER};
+use crate::encoding::{NODE_COUNT, PLAN_WORDS};
 use crate::figures::Figures;
 use crate::random::Random;
-use crate::script::{accepted, opened, planned};
-use crate::sides::{Call, Sides, OUT};
+use crate::script::{self, accepted, opened, planned};
+use crate::sides::{Call, Sides, PLAN};
 
 const MOST_VARIABLES: u64 = 1048576;
 
@@ -25,45 +27,53 @@ fn ready(r: &mut Random, f: &mut Figures, x: &Circuit) -> Result<Sides, String> 
 
 /// "N=65,536 taken, 131,072 gives 1."
 fn trace(r: &mut Random, f: &mut Figures) -> Result<(), String> {
-    let x = Circuit::plain([65536, 2, 0, 1, 3, 0, 0, 0], &[[1, 0, 0]]);
+    let mut x = Circuit::plain([65536, 2, 0, 1, 3, 0, 0, 0], &[[1, 0, 0]]);
+    x.cells = vec![2; 65536];
+    x.cells.extend(vec![PLACEHOLDER; 65535]);
     let mut sides = ready(r, f, &x)?;
     accepted(&mut sides, f, Call::Rows(&x.rows.concat()))?;
     accepted(&mut sides, f, Call::SWords(&x.s_words))?;
-    let mut cells = vec![2; 65536];
-    cells.extend(vec![PLACEHOLDER; 65535]);
-    accepted(&mut sides, f, Call::Cells(&cells))?;
+    accepted(&mut sides, f, Call::Cells(&x.cells))?;
     refused(&mut sides, f, Call::Cells(&[0, 0]), 13)?;
+    x.cells.push(0);
     accepted(&mut sides, f, Call::Cells(&[0]))?;
     accepted(&mut sides, f, Call::Finish)?;
+    beside_original(r, f, &x, Some(sides))?;
     let parameters = [131072, 2, 0, 1, 3, 0, 0, 0];
-    refused(&mut sides, f, Call::Plan(&parameters, &[1, 0, 0]), 1)
+    refused(&mut Sides::new(r), f, Call::Plan(&parameters, &[1, 0, 0]), 1)
 }
 
 /// "Index V−1 taken, V gives 14." At the greatest V, also with unread bits set.
 fn index(r: &mut Random, f: &mut Figures) -> Result<(), String> {
     let v = MOST_VARIABLES;
-    let x = Circuit::plain([4, 1, 0, 0, v, 0, 0, 0], &[[1, 0, 0]]);
+    let mut x = Circuit::plain([4, 1, 0, 0, v, 0, 0, 0], &[[1, 0, 0]]);
+    x.cells = vec![v - 1, v - 1 | 1 << 62, 0, PLACEHOLDER | v];
     let mut sides = ready(r, f, &x)?;
     accepted(&mut sides, f, Call::Rows(&x.rows.concat()))?;
     for word in [v, v + (1 << 32), v | 1 << 62, (1 << 48) - 1] {
         refused(&mut sides, f, Call::Cells(&[v - 1, word]), 14)?;
     }
-    accepted(&mut sides, f, Call::Cells(&[v - 1, v - 1 | 1 << 62, 0, PLACEHOLDER | v]))?;
+    accepted(&mut sides, f, Call::Cells(&x.cells))?;
     accepted(&mut sides, f, Call::Finish)?;
+    beside_original(r, f, &x, Some(sides))?;
     let parameters = [4, 1, 0, 0, v + 1, 0, 0, 0];
-    refused(&mut sides, f, Call::Plan(&parameters, &[1, 0, 0]), 1)
+    refused(&mut Sides::new(r), f, Call::Plan(&parameters, &[1, 0, 0]), 1)
 }
 
 /// "64 gates (0,2,0) placed at target 8; 65 give 8."
 fn gates(r: &mut Random, f: &mut Figures) -> Result<(), String> {
     let parameters = [128, 1, 0, 0, 0, 0, 0, 0];
-    let mut sides = Sides::new(r);
-    accepted(&mut sides, f, Call::Plan(&parameters, &[0, 2, 0].repeat(64)))?;
-    accepted(&mut sides, f, Call::Stats)?;
-    if sides.library[OUT][..3] != [8, 6, 8] {
-        return Err(format!("64 gates: {:?}", &sides.library[OUT][..3]));
+    let x = Circuit::plain(parameters, &[[0, 2, 0]; 64]);
+    let finished = script::run(r, f, &x)?;
+    match &finished {
+        Some(sides) if sides.library[PLAN][NODE_COUNT + 1..PLAN_WORDS] == [8, 6, 8] => {}
+        _ => return Err("64 gates: not placed, or D, K, F other than 8, 6, 8".to_string()),
     }
-    refused(&mut sides, f, Call::Plan(&parameters, &[0, 2, 0].repeat(65)), 8)?;
+    beside_original(r, f, &x, finished)?;
+    let x = Circuit::plain(parameters, &[[0, 2, 0]; 65]);
+    let mut sides = Sides::new(r);
+    refused(&mut sides, f, Call::Plan(&parameters, &x.gates.concat()), 8)?;
+    beside_original(r, f, &x, None)?;
     refused(&mut sides, f, Call::Plan(&parameters, &[2, 0, 0].repeat(129)), 3)
 }
 

@@ -1,16 +1,19 @@
 //! What a run has made and compared.
+use crate::circuit::Circuit;
 use std::collections::BTreeMap;
 use std::time::Instant;
 
 pub struct Figures {
     start: Instant,
-    pub circuits: u64,
+    circuits: u64,
     /// Circuits whose columns were compared with the original's.
     pub originals: u64,
     pub calls: u64,
     words: u64,
     by_name: BTreeMap<&'static str, u64>,
     by_number: BTreeMap<u64, u64>,
+    by_trace: BTreeMap<u64, u64>,
+    by_mode: BTreeMap<u64, u64>,
 }
 
 impl Figures {
@@ -23,7 +26,15 @@ impl Figures {
             words: 0,
             by_name: BTreeMap::new(),
             by_number: BTreeMap::new(),
+            by_trace: BTreeMap::new(),
+            by_mode: BTreeMap::new(),
         }
+    }
+
+    pub fn circuit(&mut self, x: &Circuit) {
+        self.circuits += 1;
+        *self.by_trace.entry(x.parameters[0]).or_default() += 1;
+        *self.by_mode.entry(x.parameters[5]).or_default() += 1;
     }
 
     pub fn call(&mut self, name: &'static str, number: u64, words: usize) {
@@ -47,9 +58,17 @@ impl Figures {
         );
         let names: Vec<String> = self.by_name.iter().map(|(x, n)| format!("{x} {n}")).collect();
         println!("  calls: {}", names.join(", "));
-        let accepted = self.by_number.get(&0).unwrap_or(&0);
-        let refused = self.by_number.iter().filter(|(number, _)| **number != 0);
-        let numbers: Vec<String> = refused.map(|(x, n)| format!("{x}: {n}")).collect();
-        println!("  accepted: {accepted}; refused by number: {}", numbers.join(", "));
+        let mut refused = self.by_number.clone();
+        let accepted = refused.remove(&0).unwrap_or(0);
+        println!("  accepted: {accepted}; refused by number: {}", listed(&refused));
+        if self.circuits > 0 {
+            println!("  circuits by mode: {}", listed(&self.by_mode));
+            println!("  circuits by N: {}", listed(&self.by_trace));
+        }
     }
+}
+
+fn listed(counts: &BTreeMap<u64, u64>) -> String {
+    let texts: Vec<String> = counts.iter().map(|(x, n)| format!("{x}: {n}")).collect();
+    texts.join(", ")
 }

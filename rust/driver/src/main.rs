@@ -3,6 +3,7 @@
 //!
 //!   driver random COUNT SEED [FIRST]  COUNT random circuits in random pieces, stray calls among them
 //!   driver every-word                 good plans and states with each word changed in turn
+//!   driver plans                      all short gate lists; plans that no planning gives
 //!   driver ends                       the ends of what is taken
 //!   driver largest                    the largest circuit of each mode
 //!
@@ -16,6 +17,7 @@ mod expected;
 mod figures;
 #[cfg(upstream)]
 mod original;
+mod plans;
 mod rest;
 mod script;
 mod sides;
@@ -27,6 +29,10 @@ mod circuit;
 #[allow(dead_code)]
 #[path = "../../runner/src/generate.rs"]
 mod generate;
+#[path = "../../runner/src/lists.rs"]
+mod lists;
+#[path = "../../runner/src/made_up.rs"]
+mod made_up;
 #[allow(dead_code)]
 #[path = "../../runner/src/random.rs"]
 mod random;
@@ -35,15 +41,27 @@ use circuit::Circuit;
 use figures::Figures;
 use generate::Size;
 use random::Random;
+use sides::Sides;
 
-fn one(r: &mut Random, figures: &mut Figures, x: &Circuit) -> Result<(), String> {
-    let finished = script::run(r, figures, x)?;
-    figures.circuits += 1;
+/// Compares a finished circuit with the original, where it was built in; `None` is one that
+/// planning turned down with 8.
+pub fn beside_original(
+    r: &mut Random,
+    figures: &mut Figures,
+    x: &Circuit,
+    finished: Option<Sides>,
+) -> Result<(), String> {
+    figures.circuit(x);
     #[cfg(upstream)]
     original::compare(r, figures, x, finished)?;
     #[cfg(not(upstream))]
-    drop(finished);
+    let _ = (r, finished);
     Ok(())
+}
+
+fn one(r: &mut Random, figures: &mut Figures, x: &Circuit) -> Result<(), String> {
+    let finished = script::run(r, figures, x)?;
+    beside_original(r, figures, x, finished)
 }
 
 /// Mostly small circuits, so that many are made.
@@ -105,10 +123,11 @@ fn main() {
             random(&mut figures, number(count), number(seed), number(first))
         }
         ["every-word"] => every_word::run(&mut figures),
+        ["plans"] => plans::run(&mut figures),
         ["ends"] => ends::run(&mut figures),
         ["largest"] => largest(&mut figures),
         _ => {
-            eprintln!("driver random COUNT SEED [FIRST] | every-word | ends | largest");
+            eprintln!("driver random COUNT SEED [FIRST] | every-word | plans | ends | largest");
             std::process::exit(2)
         }
     };

@@ -1,7 +1,7 @@
 //! Calls that a circuit does not ask for: faulty pieces, short buffers, made-up plans and states.
 //! Those that may be accepted are made on a copy of both sides.
 use crate::circuit::{Circuit, PLACEHOLDER};
-use crate::encoding::{PLAN_WORDS, STATE_WORDS};
+use crate::encoding::{GATE_COUNT, PLAN_WORDS, STATE_WORDS, USED};
 use crate::figures::Figures;
 use crate::random::Random;
 use crate::rest::{Rest, Section, SECTIONS};
@@ -36,6 +36,12 @@ pub fn place(r: &mut Random, length: usize) -> usize {
         _ => r.within(0, length as u64 - 1),
     };
     place as usize
+}
+
+/// Another word on both sides.
+fn change(r: &mut Random, sides: &mut Sides, buffer: usize, place: usize) {
+    let word = other(r, sides.library[buffer][place]);
+    sides.set(buffer, place, word);
 }
 
 /// A record or word at which the section's call stops, and what may stand after it.
@@ -85,16 +91,21 @@ fn faulty(r: &mut Random, x: &Circuit, rest: &Rest, section: Section) -> Vec<u64
 
 /// A call on a made-up state, or on made-up scratch, with a piece that comes next.
 fn made_up(r: &mut Random, aside: &mut Sides, figures: &mut Figures, rest: &Rest) -> Try {
-    if r.once_in(4) && !aside.library[SCRATCH].is_empty() {
-        let place = r.within(0, aside.library[SCRATCH].len() as u64 - 1) as usize;
-        let word = other(r, aside.library[SCRATCH][place]);
-        aside.set(SCRATCH, place, word);
-    } else {
-        let place = place(r, STATE_WORDS);
-        let word = other(r, aside.library[STATE][place]);
-        aside.set(STATE, place, word);
+    match r.within(0, 5) {
+        0 if !aside.library[SCRATCH].is_empty() => {
+            let place = r.within(0, aside.library[SCRATCH].len() as u64 - 1);
+            change(r, aside, SCRATCH, place as usize);
+        }
+        1 => {
+            let listed = aside.library[STATE][GATE_COUNT];
+            aside.set(STATE, USED + r.within(0, listed - 1) as usize, 0);
+        }
+        _ => {
+            let place = place(r, STATE_WORDS);
+            change(r, aside, STATE, place);
+        }
     }
-    if rest.is_empty() && r.once_in(2) {
+    if rest.is_empty() {
         return aside.make(figures, Call::Finish).map(drop);
     }
     let section = r.pick(&SECTIONS);
@@ -158,7 +169,7 @@ pub fn between(
 pub fn planning(r: &mut Random, sides: &mut Sides, figures: &mut Figures, x: &Circuit) -> Try {
     let mut parameters = x.parameters.to_vec();
     let mut gates = x.gates.concat();
-    match r.within(0, 6) {
+    match r.within(0, 8) {
         0 => drop(parameters.pop()),
         1 => parameters.push(0),
         2 => drop(gates.pop()),
@@ -171,6 +182,8 @@ pub fn planning(r: &mut Random, sides: &mut Sides, figures: &mut Figures, x: &Ci
             gates[place] = other(r, gates[place]);
         }
         5 => gates.extend(vec![0; r.pick(&[3, 381, 384])]),
+        6 => parameters[7] = 0,
+        7 => parameters[2] = 0,
         _ => {
             let kind = r.within(1, 3);
             gates.chunks_mut(3).for_each(|gate| gate.copy_from_slice(&[kind, 0, 0]));
@@ -199,8 +212,7 @@ pub fn questions(r: &mut Random, sides: &mut Sides, figures: &mut Figures, x: &C
     match r.within(0, 5) {
         0 => {
             let place = place(r, PLAN_WORDS);
-            let word = other(r, aside.library[PLAN][place]);
-            aside.set(PLAN, place, word);
+            change(r, &mut aside, PLAN, place);
         }
         1 => aside.lent[PLAN] = r.pick(&[0, PLAN_WORDS - 1, PLAN_WORDS + 1]),
         _ => {}
@@ -208,8 +220,12 @@ pub fn questions(r: &mut Random, sides: &mut Sides, figures: &mut Figures, x: &C
     aside.make(figures, call).map(drop)
 }
 
-/// An opening with a short buffer, or of a made-up plan.
+/// A call before opening, an opening with a short buffer, or one of a made-up plan.
 pub fn opening(r: &mut Random, sides: &mut Sides, figures: &mut Figures, named: [u64; 4]) -> Try {
+    if r.once_in(6) {
+        let early = SECTIONS.map(|section| section.call(&[]));
+        return sides.make(figures, r.pick(&early)).map(drop);
+    }
     if r.once_in(2) || sides.size() > MOST_COPIED {
         let buffer = r.pick(&[STATE, CONSTANTS, COPIES, SCRATCH, TABLES]);
         let length = if buffer == STATE { 1296 } else { named[buffer - CONSTANTS] };
@@ -220,8 +236,7 @@ pub fn opening(r: &mut Random, sides: &mut Sides, figures: &mut Figures, named: 
         0 => aside.lent[PLAN] = r.pick(&[0, PLAN_WORDS - 1, PLAN_WORDS + 1]),
         _ => {
             let place = place(r, PLAN_WORDS);
-            let word = other(r, aside.library[PLAN][place]);
-            aside.set(PLAN, place, word);
+            change(r, &mut aside, PLAN, place);
         }
     }
     if r.once_in(4) {
