@@ -1,8 +1,8 @@
 /* The setup stage: functions of the static library libcapi.a, proved in crates/capi.
  *
  * Every function takes any words at all and answers 0 or a refusal's number, those of document 01.
- * A buffer is a pointer to 64-bit words and its length in words. A pointer is never null, also
- * where the length is 0; a buffer that is written overlaps no other of the same call.
+ * A buffer is a pointer to 64-bit words and its length in words. A pointer is aligned and never
+ * null, also where the length is 0; a buffer that is written overlaps no other of the same call.
  *
  * What is said of a buffer concerns its first words; words beyond those keep their values. A call
  * that is turned down writes nothing, except where it says that it leaves zeros. The numbers after
