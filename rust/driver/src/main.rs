@@ -92,7 +92,7 @@ fn random_one(figures: &mut Figures, seed: u64, number: u64) -> Result<(), Strin
 fn random(figures: &mut Figures, count: u64, seed: u64, first: u64) -> Result<(), String> {
     (first..first + count).try_for_each(|number| random_one(figures, seed, number))?;
     match figures.unmet() {
-        unmet if count >= 1000 && !unmet.is_empty() => {
+        unmet if count >= 4000 && !unmet.is_empty() => {
             Err(format!("no call was refused {unmet:?}"))
         }
         _ => Ok(()),

@@ -75,6 +75,11 @@ impl Refusal {
         self as u64
     }
 
+    /// Its name in this crate.
+    pub fn name(self) -> String {
+        format!("{self:?}")
+    }
+
     /// What it means, as a sentence without a full stop.
     pub fn sentence(self) -> &'static str {
         ALL[self as usize - 1].1
@@ -84,7 +89,7 @@ impl Refusal {
 /// Its number, name and sentence.
 impl fmt::Display for Refusal {
     fn fmt(&self, f: &mut fmt::Formatter<'_>) -> fmt::Result {
-        write!(f, "refused {} ({self:?}): {}", self.number(), self.sentence())
+        write!(f, "refused {} ({}): {}", self.number(), self.name(), self.sentence())
     }
 }
 
