@@ -3,10 +3,12 @@
 mod answer;
 mod assembly;
 mod listing;
+mod parts;
 
 pub use answer::Output;
 use assembly::Assembly;
 pub use listing::Listing;
+pub use parts::{prepare, Prepared};
 
 use crate::worker::Worker;
 use std::panic::{catch_unwind, AssertUnwindSafe};

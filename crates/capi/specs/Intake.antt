@@ -1,0 +1,31 @@
+-- What opening and the calls after it leave in the state's words, and what opening answers. A later call's number and columns are those of `columns` for the
+-- state that its words encode.
+--
+-- Main definitions: `openCall`, `openedState`, `openedStore`, `stateAfter`.
+use Prim.Native.Nat.{ℕ}
+use lib.Dec.{eqb, leb}
+use lib.ListN.{length}
+use mathlib.Core.List.{List}
+use Rattle.base.specs.Pick.{pick}
+use Rattle.columns.specs.Intake.{openAnswer, openLeft}
+use Rattle.columns.specs.declared.intake.Taken.{Taken}
+use Rattle.pieces.specs.Setting.{Store}
+use Rattle.tree.specs.Plan.{planFault}
+use Rattle.capi.specs.Encoding.{handed, intakeWords, planOf, stateLength}
+
+-- "Open: 19; 10; 9 candidates reach p." The state's slice is tested just before the columns.
+unfoldable pub openCall : List ℕ → List ℕ → Store → ℕ
+openCall ws state b =
+    pick (eqb (planFault (planOf ws)) 0) (pick (leb stateLength (length state)) (openAnswer (planOf ws) b .number) 10) 19
+
+-- "Refused .. opening hands back a .. state of zeros", where there is room for it
+unfoldable pub openedState : List ℕ → List ℕ → Store → List ℕ
+openedState ws state b = handed (intakeWords (openAnswer (planOf ws) b .state)) state
+
+-- a state's slice that is too short leaves the columns as they were
+unfoldable pub openedStore : List ℕ → List ℕ → Store → Store
+openedStore ws state b = pick (leb stateLength (length state)) (openLeft (planOf ws) b) b
+
+-- "A refusal returns its number and the state given": its words stay as they were, made-up ones too
+unfoldable pub stateAfter : Taken → List ℕ → List ℕ
+stateAfter t old = pick (eqb (t .number) 0) (handed (intakeWords (t .state)) old) old

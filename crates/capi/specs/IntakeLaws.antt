@@ -1,0 +1,112 @@
+-- Opening and the calls after it, case by case.
+--
+-- Main statements: `state-given`, `state-kept`; `open-short`, `open-made-up`, `open-long`.
+use Prim.Native.Nat.{_<_, _≤_, ℕ}
+use borrow.Author.Tests.{eq-eqb, le-leb, lt-leb, ne-eqb}
+use lib.Dec.{eqb, leb}
+use lib.ListN.{length}
+use mathlib.Core.Bool.{Bool, false, true}
+use mathlib.Core.List.{List}
+use mathlib.Core.Logic.{_≢_}
+use mathlib.Core.Path.{_∙_, _≡_, ap, refl, sym}
+use native.Mathlib.Decide.{ℕ-discrete}
+use native.Mathlib.Omega.{arith}
+use Rattle.base.specs.Pick.{pick, pick-no, pick-yes}
+use Rattle.columns.specs.Intake.{openAnswer, openLeft, refusedWith, settingOf, withState}
+use Rattle.columns.specs.IntakeLaws.{open-19, open-refused}
+use Rattle.columns.specs.declared.intake.Intake.{Intake}
+use Rattle.columns.specs.declared.intake.Taken.{Taken}
+use Rattle.pieces.specs.Opening.{openNumber, openState, zeroState}
+use Rattle.pieces.specs.Setting.{Store}
+use Rattle.tree.specs.Plan.{planFault, zeroPlan}
+use Rattle.tree.specs.declared.plan.Plan.{Plan}
+use Rattle.capi.specs.Encoding.{handed, intakeOf, intakeWords, planOf, stateLength}
+use Rattle.capi.specs.EncodingLaws.{handed-short, state-length}
+use Rattle.capi.specs.Intake.{openCall, openedState, openedStore, stateAfter}
+
+-- ---- the state's words after a call
+pub state-given : (t : Taken) (old : List ℕ) → t .number ≡ 0 → handed (intakeWords (t .state)) old ≡ stateAfter t old
+unfolding stateAfter
+state-given t old e = sym (pick-yes (eqb (t .number) 0) (handed (intakeWords (t .state)) old) old (eq-eqb (t .number) 0 e))
+
+pub state-kept : (t : Taken) (old : List ℕ) → t .number ≢ 0 → old ≡ stateAfter t old
+unfolding stateAfter
+state-kept t old d = sym (pick-no (eqb (t .number) 0) (handed (intakeWords (t .state)) old) old (ne-eqb (t .number) 0 d))
+
+-- a call through the state's words is the call of the state that they encode
+pub passed : (answer : Intake → Taken) (ws : List ℕ) (s : Intake) (t : Taken) (r : ℕ) (w : List ℕ)
+    → s ≡ intakeOf ws
+    → t ≡ answer s
+    → r ≡ t .number
+    → w ≡ stateAfter t ws
+    → (r ≡ answer (intakeOf ws) .number) × (w ≡ stateAfter (answer (intakeOf ws)) ws)
+passed answer ws s t r w es et er ew =
+    let e : t ≡ answer (intakeOf ws) = et ∙ ap answer es in
+    (er ∙ ap (λ (x : Taken). x .number) e, ew ∙ ap (λ (x : Taken). stateAfter x ws) e)
+
+-- ---- opening
+-- the state that opening hands back has a state's words
+opened-long : (q : Plan) (b : Store) → length (q .gates) ≡ 384 → length (q .nodes) ≡ 765 → length (intakeWords (openAnswer q b .state)) ≡ stateLength
+unfolding openAnswer
+opened-long q b g n = by (eqb (openNumber (settingOf q) b) 0)
+  where
+    by : (t : Bool) → length (intakeWords (pick t (record { number = 0; state = withState q openState }) (refusedWith (openNumber (settingOf q) b) (withState zeroPlan zeroState)) .state)) ≡ stateLength
+    by true = state-length (withState q openState) g n refl
+    by false = state-length (withState zeroPlan zeroState) refl refl refl
+
+-- a made-up plan is 19 and writes nothing
+open-fault : (q : Plan) (b : Store) → planFault q ≢ 0 → (19 ≡ openAnswer q b .number) × (b ≡ openLeft q b)
+open-fault q b d =
+    let k = open-refused q b 19 (open-19 q b d) (λ z. omega arith) in
+    (ap (λ (x : Taken). x .number) (k .0), k .1)
+
+module _ (ws state : List ℕ) (b : Store) (q : Plan) (e : q ≡ planOf ws) (g : length (q .gates) ≡ 384) (n : length (q .nodes) ≡ 765) where
+  short-state : length state < stateLength → (state ≡ openedState ws state b) × (b ≡ openedStore ws state b)
+  unfolding openedState openedStore
+  short-state h =
+      let k : length state < length (intakeWords (openAnswer q b .state)) = omega (arith, opened-long q b g n) in (
+        handed-short (intakeWords (openAnswer q b .state)) state k ∙ ap (λ (x : Plan). handed (intakeWords (openAnswer x b .state)) state) e,
+        sym (pick-no (leb stateLength (length state)) (openLeft (planOf ws) b) b (lt-leb stateLength (length state) h)),
+      )
+
+  pub open-short : planFault q ≡ 0 → length state < stateLength → (10 ≡ openCall ws state b) × ((state ≡ openedState ws state b) × (b ≡ openedStore ws state b))
+  unfolding openCall
+  open-short f h =
+      let p : planFault (planOf ws) ≡ 0 = ap planFault (sym e) ∙ f in (
+        sym (pick-yes (eqb (planFault (planOf ws)) 0) _ 19 (eq-eqb (planFault (planOf ws)) 0 p) ∙ pick-no (leb stateLength (length state)) (openAnswer (planOf ws) b .number) 10 (lt-leb stateLength (length state) h)),
+        short-state h,
+      )
+
+  pub open-made-up : planFault q ≢ 0 → length state < stateLength → (19 ≡ openCall ws state b) × ((state ≡ openedState ws state b) × (b ≡ openedStore ws state b))
+  unfolding openCall
+  open-made-up f h =
+      let p : planFault (planOf ws) ≢ 0 = λ z. f (ap planFault e ∙ z) in
+      (sym (pick-no (eqb (planFault (planOf ws)) 0) _ 19 (ne-eqb (planFault (planOf ws)) 0 p)), short-state h)
+
+-- where the state has room the number is the opening's own: 19 comes first there too
+own-number : (q : Plan) (b : Store) → openAnswer q b .number ≡ pick (eqb (planFault q) 0) (openAnswer q b .number) 19
+own-number q b = by (ℕ-discrete (planFault q) 0)
+  where
+    by : Dec (planFault q ≡ 0) → openAnswer q b .number ≡ pick (eqb (planFault q) 0) (openAnswer q b .number) 19
+    by (yes z) = sym (pick-yes (eqb (planFault q) 0) (openAnswer q b .number) 19 (eq-eqb (planFault q) 0 z))
+    by (no d) = sym (open-fault q b d .0) ∙ sym (pick-no (eqb (planFault q) 0) (openAnswer q b .number) 19 (ne-eqb (planFault q) 0 d))
+
+pub open-given : (ws state : List ℕ) (b : Store) → stateLength ≤ length state
+    → (q : Plan) (t : Taken) (w : List ℕ) (a : Store)
+    → q ≡ planOf ws
+    → t ≡ openAnswer q b
+    → w ≡ handed (intakeWords (t .state)) state
+    → a ≡ openLeft q b
+    → (t .number ≡ openCall ws state b) × ((w ≡ openedState ws state b) × (a ≡ openedStore ws state b))
+unfolding openCall openedState openedStore
+open-given ws state b h q t w a eq et ew ea =
+    let e : t ≡ openAnswer (planOf ws) b = et ∙ ap (λ (x : Plan). openAnswer x b) eq in
+    let l = le-leb stateLength (length state) h in (
+      ap (λ (x : Taken). x .number) e
+          ∙ own-number (planOf ws) b
+          ∙ ap (λ (k : ℕ). pick (eqb (planFault (planOf ws)) 0) k 19) (sym (pick-yes (leb stateLength (length state)) (openAnswer (planOf ws) b .number) 10 l)),
+      (
+        ew ∙ ap (λ (x : Taken). handed (intakeWords (x .state)) state) e,
+        ea ∙ ap (λ (x : Plan). openLeft x b) eq ∙ sym (pick-yes (leb stateLength (length state)) (openLeft (planOf ws) b) b l),
+      ),
+    )

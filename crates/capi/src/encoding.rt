@@ -1,0 +1,207 @@
+// Plans and states as words, in the order of their fields.
+ghost use mathlib.Core.Path.{_≡_};
+ghost use Prim.Native.Nat.{ℕ, _+_, _≤_};
+ghost use lib.ListN.{length};
+ghost use lib.Seq.{paste};
+ghost use Rattle.parameters.specs.Lookup.{flagOf};
+ghost use Rattle.capi.specs.Encoding.{handed, intakeOf, intakeWords, lookupFits, parametersAt, planOf, planWords, zeroIntake};
+use columns::intake::Intake;
+use columns::intake::NEVER;
+use parameters::parameters::Parameters;
+use tree::plan::Plan;
+
+// Where the parts of a plan's words end: parameters and lookup mode, gates, their count, nodes, the rest.
+const HEAD_END: usize = 8;
+
+const GATES_END: usize = 392;
+
+const NODES_START: usize = 393;
+
+const NODES_END: usize = 1158;
+
+pub(crate) const PLAN_WORDS: usize = 1162;
+
+// Where the parts of a state's words end: the plan, the counts, the marks, the phase.
+const COUNTS_END: usize = 1167;
+
+const USED_END: usize = 1295;
+
+pub(crate) const STATE_WORDS: usize = 1296;
+
+// The words of a slice go into another, from `at` on.
+fn copy_words(from: &[u64], at: usize, to: &mut [u64])
+    requires { ⌜ at + length (now from) ≤ length (now to) ⌝ }
+    ensures { λ _. ⌜ now (to .exit) ≡ paste (now (to .entry)) at (now (from .entry)) (length (now (from .entry))) ⌝ }
+{
+    let mut i: usize = 0;
+    while i < from.len() {
+        to[at + i] = from[i];
+        i = i + 1;
+    }
+}
+
+// Words go to the front of a result slice; one that is too short keeps all its words.
+pub(crate) fn hand(words: &[u64], out: &mut [u64])
+    ensures { λ _. ⌜ now (out .exit) ≡ handed (now (words .entry)) (now (out .entry)) ⌝ }
+{
+    if words.len() <= out.len() {
+        copy_words(words, 0, out);
+    }
+}
+
+// The eight parameter words.
+pub(crate) fn parameters_at(words: &[u64]) -> Parameters
+    requires { ⌜ 8 ≤ length (now words) ⌝ }
+    ensures { λ r. ⌜ r ≡ parametersAt (now (words .entry)) ⌝ }
+{
+    Parameters {
+        trace: words[0],
+        copy: words[1],
+        allowed: words[2],
+        specialised: words[3],
+        variables: words[4],
+        mode: words[5],
+        width: words[6],
+        share: words[7],
+    }
+}
+
+// Whether some lookup mode has this number, width and flag.
+fn lookup_fits(mode: u64, width: u64, flag: u64) -> bool
+    ensures { λ r. ⌜ r ≡ lookupFits mode width flag ⌝ }
+{
+    if 4 < mode {
+        return false;
+    }
+    if 1 < flag {
+        return false;
+    }
+    if mode == 0 {
+        if width == 0 {
+            return flag == 0;
+        }
+        return false;
+    }
+    true
+}
+
+// The share flag as a word.
+fn flag_of(share: bool) -> u64
+    ensures { λ r. ⌜ r ≡ flagOf share ⌝ }
+{
+    if share {
+        return 1;
+    }
+    0
+}
+
+// The plan that the words encode; words that encode none, or are not as many, are a plan of zeros.
+pub(crate) fn decode_plan(words: &[u64]) -> Plan
+    ensures { λ r. ⌜ r ≡ planOf (now (words .entry)) ⌝ }
+{
+    if words.len() != PLAN_WORDS {
+        return Plan::zero();
+    }
+    if lookup_fits(words[5], words[6], words[7]) {
+        let parameters = parameters_at(words);
+        let mut gates = [0; 384];
+        copy_words(&words[HEAD_END..GATES_END], 0, &mut gates);
+        let mut nodes = [0; 765];
+        copy_words(&words[NODES_START..NODES_END], 0, &mut nodes);
+        return Plan {
+            trace: parameters.trace,
+            copy: parameters.copy,
+            allowed: parameters.allowed,
+            specialised: parameters.specialised,
+            variables: parameters.variables,
+            lookup: parameters.lookup(),
+            gates: gates,
+            gate_count: words[GATES_END],
+            nodes: nodes,
+            node_count: words[NODES_END],
+            degree: words[NODES_END + 1],
+            constants: words[NODES_END + 2],
+            factor: words[NODES_END + 3],
+        };
+    }
+    Plan::zero()
+}
+
+// The words of a plan go to the front of a slice; one that is too short keeps all its words.
+pub(crate) fn encode_plan(plan: Plan, words: &mut [u64])
+    ensures { λ _. ⌜ now (words .exit) ≡ handed (planWords plan) (now (words .entry)) ⌝ }
+{
+    if words.len() < PLAN_WORDS {
+        return;
+    }
+    let lookup = plan.lookup;
+    let head = [
+        plan.trace,
+        plan.copy,
+        plan.allowed,
+        plan.specialised,
+        plan.variables,
+        lookup.mode(),
+        lookup.lookup_width(),
+        flag_of(lookup.share_table_id()),
+    ];
+    copy_words(&head, 0, words);
+    let gates = plan.gates;
+    copy_words(&gates, HEAD_END, words);
+    words[GATES_END] = plan.gate_count;
+    let nodes = plan.nodes;
+    copy_words(&nodes, NODES_START, words);
+    let tail = [plan.node_count, plan.degree, plan.constants, plan.factor];
+    copy_words(&tail, NODES_END, words);
+}
+
+// The state that the words encode; of another number of words a state of zeros.
+pub(crate) fn decode_state(words: &[u64]) -> Intake
+    ensures { λ r. ⌜ r ≡ intakeOf (now (words .entry)) ⌝ }
+{
+    let mut used = [0; 128];
+    if words.len() != STATE_WORDS {
+        return Intake {
+            plan: Plan::zero(),
+            rows: 0,
+            s_words: 0,
+            cells: 0,
+            tables: 0,
+            table_rows: 0,
+            used: used,
+            phase: NEVER,
+        };
+    }
+    copy_words(&words[COUNTS_END..USED_END], 0, &mut used);
+    Intake {
+        plan: decode_plan(&words[..PLAN_WORDS]),
+        rows: words[PLAN_WORDS],
+        s_words: words[PLAN_WORDS + 1],
+        cells: words[PLAN_WORDS + 2],
+        tables: words[PLAN_WORDS + 3],
+        table_rows: words[PLAN_WORDS + 4],
+        used: used,
+        phase: words[USED_END],
+    }
+}
+
+// The words of a state go to the front of a slice; one that is too short keeps all its words.
+pub(crate) fn encode_state(state: Intake, words: &mut [u64])
+    ensures { λ _. ⌜ now (words .exit) ≡ handed (intakeWords state) (now (words .entry)) ⌝ }
+{
+    if words.len() < STATE_WORDS {
+        return;
+    }
+    encode_plan(state.plan, words);
+    let counts = [
+        state.rows,
+        state.s_words,
+        state.cells,
+        state.tables,
+        state.table_rows,
+    ];
+    copy_words(&counts, PLAN_WORDS, words);
+    let used = state.used;
+    copy_words(&used, COUNTS_END, words);
+    words[USED_END] = state.phase;
+}

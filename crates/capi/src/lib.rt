@@ -1,0 +1,25 @@
+// Functions for callers in C and Rust. Each takes any words at all; slices pass as pointer and
+// length. The answer is 0 or 01's refusal number.
+ghost use mathlib.Core.Path.{_≡_};
+ghost use Rattle.capi.specs.Encoding.{planLength, stateLength};
+
+mod encoding;
+pub mod intake;
+pub mod listed;
+pub mod planning;
+
+// How many words a plan has.
+#[no_mangle]
+pub extern "C" fn setup_plan_words() -> u64
+    ensures { λ r. ⌜ r ≡ planLength ⌝ }
+{
+    encoding::PLAN_WORDS as u64
+}
+
+// How many words a state has.
+#[no_mangle]
+pub extern "C" fn setup_state_words() -> u64
+    ensures { λ r. ⌜ r ≡ stateLength ⌝ }
+{
+    encoding::STATE_WORDS as u64
+}

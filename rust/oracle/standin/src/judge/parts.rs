@@ -1,0 +1,45 @@
+//! The upstream setup, whole and by part, on a circuit that is already in the upstream
+//! structures: for timing. What a part makes is handed to the caller, who drops it.
+use super::assembly::{self, Assembly};
+use super::Listing;
+use crate::worker::Worker;
+use std::any::Any;
+
+pub struct Prepared {
+    assembly: Assembly,
+    worker: Worker,
+}
+
+/// `None` where the words are no listing.
+pub fn prepare(words: &[u64]) -> Option<Prepared> {
+    let listing = Listing::read(words)?;
+    let assembly = assembly::synthesis(&listing).into_assembly();
+    Some(Prepared { assembly, worker: Worker::new_with_num_threads(1) })
+}
+
+impl Prepared {
+    /// create_base_setup.
+    pub fn whole(&self) -> Box<dyn Any> {
+        Box::new(self.assembly.create_base_setup(&self.worker, &mut ()))
+    }
+
+    /// The search for a tree.
+    pub fn planning(&self) -> Box<dyn Any> {
+        Box::new(self.assembly.compute_selectors_and_constants_placement())
+    }
+
+    /// The constant columns, and the tree before them.
+    pub fn constants(&self) -> Box<dyn Any> {
+        Box::new(self.assembly.create_constant_setup_polys(&self.worker))
+    }
+
+    /// The copy columns: labels, cells and the closing of the cycles.
+    pub fn copies(&self) -> Box<dyn Any> {
+        Box::new(self.assembly.create_permutation_polys(&self.worker, &mut ()))
+    }
+
+    /// The table columns.
+    pub fn tables(&self) -> Box<dyn Any> {
+        Box::new(self.assembly.create_lookup_tables_columns_polys(&self.worker))
+    }
+}
