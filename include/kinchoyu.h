@@ -101,6 +101,15 @@ uint64_t setup_finish(uint64_t *state, size_t state_length,
                       uint64_t *copies, size_t copies_length,
                       const uint64_t *scratch, size_t scratch_length);
 
+/* Runs a whole listing, document 01's words: plans, opens, gives every section and finishes, in
+ * buffers as for setup_open. 20 where it is no whole listing, then the numbers of the calls in that
+ * order; none of them writes a word. */
+uint64_t setup_run(const uint64_t *listing, size_t listing_length,
+                   uint64_t *constants, size_t constants_length,
+                   uint64_t *copies, size_t copies_length,
+                   uint64_t *scratch, size_t scratch_length,
+                   uint64_t *tables, size_t tables_length);
+
 #ifdef __cplusplus
 }
 #endif

@@ -1,5 +1,6 @@
 //! What the model says of each call over words: its number, and every word that it leaves.
 use crate::encoding::*;
+use model::listing::Buffers;
 use model::plan::Plan;
 use model::State;
 
@@ -141,4 +142,30 @@ pub fn tables(state: &mut [u64], piece: &[u64], tables: &mut [u64]) -> u64 {
 /// the library's.
 pub fn finish(state: &mut [u64], copies: &mut [u64], scratch: &mut [u64]) -> u64 {
     taken(model::finish(&state_of(state), copies, scratch), state)
+}
+
+/// A refused listing leaves every word as it was.
+pub fn run(
+    listing: &[u64],
+    constants: &mut [u64],
+    copies: &mut [u64],
+    scratch: &mut [u64],
+    tables: &mut [u64],
+) -> u64 {
+    let mut buffers = Buffers {
+        constants: constants.to_vec(),
+        copies: copies.to_vec(),
+        scratch: scratch.to_vec(),
+        tables: tables.to_vec(),
+    };
+    match model::run_listing(listing, &mut buffers) {
+        Err(number) => number,
+        Ok(_) => {
+            constants.copy_from_slice(&buffers.constants);
+            copies.copy_from_slice(&buffers.copies);
+            scratch.copy_from_slice(&buffers.scratch);
+            tables.copy_from_slice(&buffers.tables);
+            0
+        }
+    }
 }

@@ -22,6 +22,7 @@ mod rest;
 mod script;
 mod sides;
 mod strays;
+mod whole;
 
 #[allow(dead_code)]
 #[path = "../../runner/src/circuit.rs"]

@@ -6,7 +6,7 @@ use crate::figures::Figures;
 use crate::random::Random;
 use crate::rest::{Rest, SECTIONS};
 use crate::sides::{Call, Sides, PLAN, STATE};
-use crate::strays;
+use crate::{strays, whole};
 use model::columns::{constants_length, copies_length, scratch_length, tables_length};
 
 /// Makes a call that has to be accepted.
@@ -81,7 +81,11 @@ pub fn run(r: &mut Random, figures: &mut Figures, x: &Circuit) -> Result<Option<
     accepted(&mut sides, figures, Call::Finish)?;
     let late = r.pick(&[Call::Rows(&[]), Call::SWords(&[]), Call::Cells(&[]), Call::Finish]);
     match sides.make(figures, late)? {
-        19 => Ok(Some(sides)),
-        number => Err(format!("{} after finishing: {number}", late.name())),
+        19 => {}
+        number => return Err(format!("{} after finishing: {number}", late.name())),
     }
+    if r.once_in(3) {
+        whole::run(r, &sides, figures, x, named)?;
+    }
+    Ok(Some(sides))
 }

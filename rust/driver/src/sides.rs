@@ -20,6 +20,7 @@ pub enum Call<'a> {
     Cells(&'a [u64]),
     Tables(&'a [u64]),
     Finish,
+    Run(&'a [u64]),
 }
 
 impl Call<'_> {
@@ -36,6 +37,7 @@ impl Call<'_> {
             Call::Cells(_) => "cells",
             Call::Tables(_) => "tables",
             Call::Finish => "finish",
+            Call::Run(_) => "run",
         }
     }
 }
@@ -73,6 +75,7 @@ fn by_library(call: Call, [plan, state, out, constants, copies, scratch, tables]
         Call::Cells(piece) => raw::cells(state, piece, copies, scratch),
         Call::Tables(piece) => raw::tables(state, piece, tables),
         Call::Finish => raw::finish(state, copies, scratch),
+        Call::Run(listing) => raw::run(listing, constants, copies, scratch, tables),
     }
 }
 
@@ -89,6 +92,7 @@ fn by_model(call: Call, [plan, state, out, constants, copies, scratch, tables]: 
         Call::Cells(piece) => expected::cells(state, piece, copies, scratch),
         Call::Tables(piece) => expected::tables(state, piece, tables),
         Call::Finish => expected::finish(state, copies, scratch),
+        Call::Run(listing) => expected::run(listing, constants, copies, scratch, tables),
     }
 }
 

@@ -37,6 +37,7 @@
 mod c;
 mod columns;
 mod intake;
+mod listing;
 mod parameters;
 mod plan;
 pub mod raw;
@@ -44,6 +45,7 @@ mod refusal;
 
 pub use columns::{Columns, Lengths, Lent};
 pub use intake::{Cell, Intake};
+pub use listing::{run, run_in};
 pub use parameters::{Gate, Lookup, Parameters};
 pub use plan::{label, Path, Plan, Stats};
 pub use refusal::Refusal;

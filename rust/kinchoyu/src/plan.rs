@@ -45,8 +45,12 @@ impl Plan {
     /// Plans for these parameters and gates. Refusals 1 to 8.
     pub fn new(parameters: &Parameters, gates: &[Gate]) -> Result<Plan, Refusal> {
         let gates: Vec<u64> = gates.iter().flat_map(|gate| gate.words()).collect();
+        Plan::planned(&parameters.words(), &gates)
+    }
+
+    pub(crate) fn planned(parameters: &[u64], gates: &[u64]) -> Result<Plan, Refusal> {
         let mut words = vec![0; raw::plan_words()];
-        answer(raw::plan(&parameters.words(), &gates, &mut words))?;
+        answer(raw::plan(parameters, gates, &mut words))?;
         Ok(Plan { words })
     }
 

@@ -160,3 +160,28 @@ pub fn finish(state: &mut [u64], copies: &mut [u64], scratch: &[u64]) -> u64 {
         )
     }
 }
+
+/// A whole listing in one call.
+pub fn run(
+    listing: &[u64],
+    constants: &mut [u64],
+    copies: &mut [u64],
+    scratch: &mut [u64],
+    tables: &mut [u64],
+) -> u64 {
+    // SAFETY: pointers and lengths of references, as said above.
+    unsafe {
+        c::setup_run(
+            listing.as_ptr(),
+            listing.len(),
+            constants.as_mut_ptr(),
+            constants.len(),
+            copies.as_mut_ptr(),
+            copies.len(),
+            scratch.as_mut_ptr(),
+            scratch.len(),
+            tables.as_mut_ptr(),
+            tables.len(),
+        )
+    }
+}

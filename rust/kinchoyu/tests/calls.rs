@@ -116,6 +116,31 @@ fn refusals_have_the_numbers_of_document_01() {
 }
 
 #[test]
+fn a_listing_in_one_call() {
+    let listing = |count: u64, trace: u64, cells: [u64; 2]| {
+        let parameters = [count, trace, 2, 0, 0, 2, 0, 0, 0];
+        let sections: [&[u64]; 5] = [&[1, 1, 0, 0, 1, 0, 0, 0, 2], &cells, &[0], &[], &[]];
+        [&parameters[..], &sections.concat()].concat()
+    };
+    let (plan, columns) = run(&listing(8, 1, [1, 1])).unwrap();
+    assert_eq!(plan, Plan::new(&plan.parameters(), &[Gate::Marker]).unwrap());
+    let own = [0, 1].map(|cell| label(1, 2, cell).unwrap());
+    assert!(columns.copies().eq([[own[1]], [own[0]]]));
+    assert_eq!(run(&listing(8, 1, [2, 0])), Err(Refusal::Variable));
+    assert_eq!(run(&listing(8, 3, [0, 0])), Err(Refusal::Parameter));
+    assert_eq!(run(&listing(9, 1, [0, 0])), Err(Refusal::Listing));
+    assert_eq!(run(&[]), Err(Refusal::Listing));
+    // not whole, and a parameter out of range: 20 comes first
+    let cut = listing(8, 3, [0, 0]);
+    assert_eq!(run(&cut[..cut.len() - 1]), Err(Refusal::Listing));
+    let (mut copies, mut scratch) = ([7; 2], [7; 3]);
+    let lent =
+        Lent { constants: &mut [], copies: &mut copies, scratch: &mut scratch, tables: &mut [] };
+    assert_eq!(run_in(&listing(8, 1, [0, 0]), lent), Err(Refusal::ShortBuffer));
+    assert_eq!((copies, scratch), ([7; 2], [7; 3]));
+}
+
+#[test]
 fn an_index_of_more_than_48_bits_is_refused_and_not_cut() {
     let plan = plan();
     let mut columns = Columns::new(&plan);
