@@ -84,9 +84,11 @@ fn random_one(figures: &mut Figures, seed: u64, number: u64) -> Result<(), Strin
     while x.parameters[4] == 1048576 && size == Size::Small && !r.once_in(20) {
         x = generate::circuit(&mut r, size);
     }
+    let before = figures.calls;
     one(&mut r, figures, &x).map_err(|what| {
+        let call = figures.calls - before;
         let written: String = x.written().chars().take(2000).collect();
-        format!("seed {seed}, circuit {number}, call {}: {what}\n  {written}", figures.calls)
+        format!("seed {seed}, circuit {number}, its call {call}: {what}\n  {written}")
     })
 }
 

@@ -149,8 +149,8 @@ impl Sides {
             None => "the words are equal".to_string(),
             Some(what) => what,
         };
-        let lent = self.lent;
-        Err(format!("{call:?}, lent {lent:?}: library {number}, model {wanted}; {what}"))
+        let said: String = format!("{call:?}").chars().take(500).collect();
+        Err(format!("{what}; answers {number} and {wanted}; lent {:?}; {said}", self.lent))
     }
 
     fn difference(&self) -> Option<String> {
