@@ -1,11 +1,19 @@
 //! The proved library with buffers lent to it.
 use crate::circuits::Circuit;
+use std::time::{Duration, Instant};
 
 #[link(name = "capi", kind = "static")]
 extern "C" {
     fn setup_plan_words() -> u64;
     fn setup_state_words() -> u64;
-    fn setup_plan(ps: *const u64, pn: usize, gs: *const u64, gn: usize, plan: *mut u64, n: usize) -> u64;
+    fn setup_plan(
+        ps: *const u64,
+        pn: usize,
+        gs: *const u64,
+        gn: usize,
+        plan: *mut u64,
+        n: usize,
+    ) -> u64;
     #[allow(clippy::too_many_arguments)]
     fn setup_open(
         plan: *const u64,
@@ -22,7 +30,14 @@ extern "C" {
         tn: usize,
     ) -> u64;
     fn setup_rows(s: *mut u64, sn: usize, p: *const u64, pn: usize, b: *mut u64, bn: usize) -> u64;
-    fn setup_s_words(s: *mut u64, sn: usize, p: *const u64, pn: usize, b: *mut u64, bn: usize) -> u64;
+    fn setup_s_words(
+        s: *mut u64,
+        sn: usize,
+        p: *const u64,
+        pn: usize,
+        b: *mut u64,
+        bn: usize,
+    ) -> u64;
     fn setup_cells(
         s: *mut u64,
         sn: usize,
@@ -33,8 +48,22 @@ extern "C" {
         v: *mut u64,
         vn: usize,
     ) -> u64;
-    fn setup_tables(s: *mut u64, sn: usize, p: *const u64, pn: usize, b: *mut u64, bn: usize) -> u64;
-    fn setup_finish(s: *mut u64, sn: usize, b: *mut u64, bn: usize, v: *const u64, vn: usize) -> u64;
+    fn setup_tables(
+        s: *mut u64,
+        sn: usize,
+        p: *const u64,
+        pn: usize,
+        b: *mut u64,
+        bn: usize,
+    ) -> u64;
+    fn setup_finish(
+        s: *mut u64,
+        sn: usize,
+        b: *mut u64,
+        bn: usize,
+        v: *const u64,
+        vn: usize,
+    ) -> u64;
 }
 
 /// A circuit's words and buffers that are long enough for it.
@@ -125,7 +154,9 @@ impl Lent {
         let (s, k) = (&mut self.state, &mut self.constant_columns);
         for piece in self.s_words.chunks(most) {
             let (p, n) = (piece.as_ptr(), piece.len());
-            accepted(unsafe { setup_s_words(s.as_mut_ptr(), s.len(), p, n, k.as_mut_ptr(), k.len()) });
+            accepted(unsafe {
+                setup_s_words(s.as_mut_ptr(), s.len(), p, n, k.as_mut_ptr(), k.len())
+            });
         }
     }
 
@@ -134,7 +165,16 @@ impl Lent {
         for piece in self.cells.chunks(most) {
             let (p, n) = (piece.as_ptr(), piece.len());
             accepted(unsafe {
-                setup_cells(s.as_mut_ptr(), s.len(), p, n, c.as_mut_ptr(), c.len(), v.as_mut_ptr(), v.len())
+                setup_cells(
+                    s.as_mut_ptr(),
+                    s.len(),
+                    p,
+                    n,
+                    c.as_mut_ptr(),
+                    c.len(),
+                    v.as_mut_ptr(),
+                    v.len(),
+                )
             });
         }
     }
@@ -143,7 +183,9 @@ impl Lent {
         let (s, t) = (&mut self.state, &mut self.table_columns);
         let mut give = |piece: &[u64]| {
             let (p, n) = (piece.as_ptr(), piece.len());
-            accepted(unsafe { setup_tables(s.as_mut_ptr(), s.len(), p, n, t.as_mut_ptr(), t.len()) })
+            accepted(unsafe {
+                setup_tables(s.as_mut_ptr(), s.len(), p, n, t.as_mut_ptr(), t.len())
+            })
         };
         if most == usize::MAX {
             return give(&self.table_words);
@@ -158,32 +200,51 @@ impl Lent {
         });
     }
 
-    /// Planning, opening, every section in pieces of at most so many records, finishing.
-    pub fn whole(&mut self, most: usize) -> Vec<u64> {
-        let plan = self.plan();
-        self.open(&plan);
-        self.give_rows(most);
-        self.give_s_words(most);
-        self.give_cells(most);
-        self.give_tables(most);
-        self.finish();
-        plan
+    /// Planning, opening, every section in pieces of at most so many records, finishing: the time
+    /// of each step.
+    pub fn whole(&mut self, most: usize) -> Steps {
+        let mut plan = vec![];
+        let planning = timed(|| plan = self.plan());
+        Steps {
+            planning,
+            opening: timed(|| self.open(&plan)),
+            rows: timed(|| self.give_rows(most)),
+            s_words: timed(|| self.give_s_words(most)),
+            cells: timed(|| self.give_cells(most)),
+            tables: timed(|| self.give_tables(most)),
+            finishing: timed(|| self.finish()),
+        }
+    }
+}
+
+/// How long each step took.
+#[derive(Clone, Copy)]
+pub struct Steps {
+    pub planning: Duration,
+    pub opening: Duration,
+    pub rows: Duration,
+    pub s_words: Duration,
+    pub cells: Duration,
+    pub tables: Duration,
+    pub finishing: Duration,
+}
+
+impl Steps {
+    pub fn constants(self) -> Duration {
+        self.planning + self.rows + self.s_words
     }
 
-    /// Planning, rows and S words, on a state that is open.
-    pub fn constants(&mut self) {
-        self.plan();
-        self.give_rows(usize::MAX);
-        self.give_s_words(usize::MAX);
+    pub fn copies(self) -> Duration {
+        self.opening + self.cells + self.finishing
     }
 
-    /// Opening, cells and finishing; the rows and S words are given outside the time.
-    pub fn copies(&mut self, plan: &[u64]) {
-        self.open(plan);
-        self.give_cells(usize::MAX);
+    pub fn whole(self) -> Duration {
+        self.constants() + self.copies() + self.tables
     }
+}
 
-    pub fn tables(&mut self) {
-        self.give_tables(usize::MAX);
-    }
+pub fn timed(run: impl FnOnce()) -> Duration {
+    let start = Instant::now();
+    run();
+    start.elapsed()
 }

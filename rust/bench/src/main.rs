@@ -1,16 +1,13 @@
 //! The proved library beside the original's create_base_setup: one process, one thread, the same
-//! circuits, short rounds in turn, minima and medians.
+//! circuits, rounds in turn, minima and medians in milliseconds.
 //!
-//!   bench [ROUNDS]      9 if not given
+//!   bench [ROUNDS]      15 if not given
 mod circuits;
 mod library;
 
 use circuits::{Cells, Shape};
-use library::Lent;
-use std::time::{Duration, Instant};
-
-/// What is timed of a circuit, on both sides.
-const PARTS: [&str; 4] = ["whole", "planning, rows, S words", "opening, cells, finishing", "tables"];
+use library::{timed, Lent};
+use std::time::Duration;
 
 #[derive(Default)]
 struct Times(Vec<Duration>);
@@ -27,60 +24,65 @@ impl Times {
     }
 }
 
-fn timed<T>(times: &mut Times, run: impl FnOnce() -> T) -> T {
-    let start = Instant::now();
-    let made = run();
-    times.0.push(start.elapsed());
-    made
+/// A part of the work on both sides.
+#[derive(Default)]
+struct Part {
+    ours: Times,
+    theirs: Times,
 }
 
-fn row(name: &str, part: &str, ours: &Times, theirs: &Times) {
-    let ratio = ours.least() / theirs.least();
-    println!(
-        "| {name} | {part} | {:.3} | {:.3} | {:.3} | {:.3} | {ratio:.2} |",
-        ours.least(),
-        ours.median(),
-        theirs.least(),
-        theirs.median()
-    );
+impl Part {
+    fn print(&self, name: &str, part: &str) {
+        let (ours, theirs) = (&self.ours, &self.theirs);
+        println!(
+            "| {name} | {part} | {:.3} | {:.3} | {:.3} | {:.3} | {:.2} |",
+            ours.least(),
+            ours.median(),
+            theirs.least(),
+            theirs.median(),
+            ours.least() / theirs.least()
+        );
+    }
 }
 
-/// One circuit, whole and by part.
+/// One circuit in one piece a section, whole and by part.
 fn compare(shape: Shape, rounds: usize) {
     let circuit = circuits::make(shape);
     let original = oracle::prepare(&circuit.listing()).expect("a listing");
     let mut lent = Lent::new(&circuit);
-    let mut ours: [Times; 4] = Default::default();
-    let mut theirs: [Times; 4] = Default::default();
+    let names = ["planning, rows, S words", "opening, cells, finishing", "tables", "whole"];
+    let mut parts: [Part; 4] = Default::default();
     for _ in 0..rounds {
-        drop(timed(&mut theirs[0], || original.whole()));
-        let plan = timed(&mut ours[0], || lent.whole(usize::MAX));
-        drop(timed(&mut theirs[1], || original.constants()));
-        lent.open(&plan);
-        timed(&mut ours[1], || lent.constants());
-        drop(timed(&mut theirs[2], || original.copies()));
-        timed(&mut ours[2], || lent.copies(&plan));
-        drop(timed(&mut theirs[3], || original.tables()));
-        timed(&mut ours[3], || lent.tables());
+        let steps = lent.whole(usize::MAX);
+        let ours = [steps.constants(), steps.copies(), steps.tables, steps.whole()];
+        let theirs = [
+            timed(|| drop(original.constants())),
+            timed(|| drop(original.copies())),
+            timed(|| drop(original.tables())),
+            timed(|| drop(original.whole())),
+        ];
+        for (i, part) in parts.iter_mut().enumerate() {
+            part.ours.0.push(ours[i]);
+            part.theirs.0.push(theirs[i]);
+        }
     }
-    let name = shape.name();
-    for (i, part) in PARTS.iter().enumerate() {
-        row(&name, part, &ours[i], &theirs[i]);
+    for (part, name) in parts.iter().zip(names) {
+        part.print(&shape.name(), name);
     }
 }
 
-/// Planning alone: the gates that take the search longest.
+/// Planning alone.
 fn planning(rounds: usize) {
     for (name, gates) in circuits::gate_lists() {
         let circuit = circuits::plain(&gates);
         let original = oracle::prepare(&circuit.listing()).expect("a listing");
         let lent = Lent::new(&circuit);
-        let (mut ours, mut theirs) = (Times::default(), Times::default());
+        let mut part = Part::default();
         for _ in 0..rounds {
-            drop(timed(&mut theirs, || original.planning()));
-            timed(&mut ours, || lent.plan());
+            part.theirs.0.push(timed(|| drop(original.planning())));
+            part.ours.0.push(timed(|| drop(lent.plan())));
         }
-        row(name, "planning", &ours, &theirs);
+        part.print(name, "planning");
     }
 }
 
@@ -88,11 +90,10 @@ fn planning(rounds: usize) {
 fn pieces(shape: Shape, rounds: usize) {
     let circuit = circuits::make(shape);
     let mut lent = Lent::new(&circuit);
-    println!("\n| circuit | records a piece | ms, least | ms, median |\n|---|---|---|---|");
     for most in [usize::MAX, 1024, 1] {
         let mut times = Times::default();
-        for _ in 0..if most == 1 { 1 } else { rounds } {
-            timed(&mut times, || lent.whole(most));
+        for _ in 0..if most == 1 { 3 } else { rounds } {
+            times.0.push(lent.whole(most).whole());
         }
         let size = if most == usize::MAX { "all".to_string() } else { most.to_string() };
         println!("| {} | {size} | {:.3} | {:.3} |", shape.name(), times.least(), times.median());
@@ -100,7 +101,7 @@ fn pieces(shape: Shape, rounds: usize) {
 }
 
 fn main() {
-    let rounds = std::env::args().nth(1).map_or(9, |n| n.parse().expect("a number of rounds"));
+    let rounds = std::env::args().nth(1).map_or(15, |n| n.parse().expect("a number of rounds"));
     println!("| circuit | part | ours, least | ours, median | original, least | original, median | ratio |");
     println!("|---|---|---|---|---|---|---|");
     planning(rounds);
@@ -111,6 +112,8 @@ fn main() {
             }
         }
     }
-    pieces(Shape { n: 1 << 10, c: 8, cells: Cells::Random }, rounds);
-    pieces(Shape { n: 1 << 13, c: 8, cells: Cells::Random }, rounds);
+    println!("\n| circuit | records a piece | least | median |\n|---|---|---|---|");
+    for log in [10, 13, 16] {
+        pieces(Shape { n: 1 << log, c: 8, cells: Cells::Random }, rounds);
+    }
 }
