@@ -86,19 +86,17 @@ fn mode(f: &mut Figures, mode: u64) -> Result<(), String> {
     }
     plans(f, &sides)?;
     opened(&mut r, &mut sides, f)?;
+    // a state half way, then one that only finishing is left for
     let mut rest = Rest::of(&x);
     for section in SECTIONS {
-        // a state half way, then one that only finishing is left for
-        let piece = match section {
-            _ if mode % 2 == 0 => rest.piece(&mut r, section),
-            _ => rest.all(section),
-        };
+        let piece = rest.piece(&mut r, section);
         accepted(&mut sides, f, section.call(&piece))?;
     }
-    if mode % 2 == 1 {
-        rest = Rest { rows: &[], s_words: &[], cells: &[], tables: &[] };
+    states(f, &sides, &rest)?;
+    for section in SECTIONS {
+        accepted(&mut sides, f, section.call(&rest.all(section)))?;
     }
-    states(f, &sides, &rest)
+    states(f, &sides, &Rest::default())
 }
 
 pub fn run(f: &mut Figures) -> Result<(), String> {

@@ -3,6 +3,7 @@ use crate::circuit::Circuit;
 use crate::random::Random;
 use crate::sides::Call;
 
+#[derive(Clone, Copy, Default)]
 pub struct Rest<'a> {
     pub rows: &'a [Vec<u64>],
     pub s_words: &'a [u64],
@@ -75,8 +76,8 @@ impl<'a> Rest<'a> {
 
     /// The same without taking it.
     pub fn peek(&self, r: &mut Random, section: Section) -> Vec<u64> {
-        let Rest { rows, s_words, cells, tables } = *self;
-        Rest { rows, s_words, cells, tables }.piece(r, section)
+        let mut copy = *self;
+        copy.piece(r, section)
     }
 
     /// All that is left of a section.
