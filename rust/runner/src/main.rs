@@ -32,6 +32,8 @@ mod generate;
 #[cfg(upstream)]
 mod listings;
 #[cfg(upstream)]
+mod lists;
+#[cfg(upstream)]
 mod pieces;
 #[cfg(upstream)]
 mod program;

@@ -1,0 +1,118 @@
+/* The worked circuit of document 01 from C: plans, opens, gives the sections and finishes, then
+ * prints what the program `setup` prints for it.
+ *
+ *   cc -I include examples/caller.c target/staticlib/libcapi.a -o caller
+ */
+#include <inttypes.h>
+#include <stdio.h>
+#include <stdlib.h>
+
+#include "kinchoyu.h"
+
+#define WORDS(array) (sizeof(array) / sizeof((array)[0]))
+
+/* A buffer and how many words it has. */
+struct buffer {
+    uint64_t *words;
+    size_t length;
+};
+
+static struct buffer buffer(uint64_t length)
+{
+    /* one word more is asked for, so that no pointer is null */
+    struct buffer made = {calloc(length + 1, sizeof(uint64_t)), length};
+    if (made.words == NULL) {
+        exit(2);
+    }
+    return made;
+}
+
+/* Ends the program where a call is turned down. */
+static void accepted(const char *call, uint64_t number)
+{
+    if (number != 0) {
+        printf("%s: refused %" PRIu64 "\n", call, number);
+        exit(1);
+    }
+}
+
+/* The circuit. Parameters: N, C, A, S, V, mode, W, share flag. */
+static const uint64_t parameters[] = {2, 2, 1, 0, 2, 0, 0, 0};
+static const uint64_t gates[] = {0, 2, 1, 1, 0, 0};
+static const uint64_t rows[] = {0, 1, 5, 1, 0};
+static const uint64_t cells[] = {0, 1, 1, KINCHOYU_PLACEHOLDER};
+
+/* Opens the columns, gives rows and cells, the cells in two pieces, and finishes. */
+static void give(struct buffer plan, struct buffer constants, struct buffer copies)
+{
+    struct buffer state = buffer(setup_state_words());
+    struct buffer scratch = buffer(2 * parameters[4]), tables = buffer(0);
+    accepted("open", setup_open(plan.words, plan.length, state.words, state.length,
+                                constants.words, constants.length, copies.words, copies.length,
+                                scratch.words, scratch.length, tables.words, tables.length));
+    accepted("rows", setup_rows(state.words, state.length, rows, WORDS(rows),
+                                constants.words, constants.length));
+    accepted("cells", setup_cells(state.words, state.length, cells, 1,
+                                  copies.words, copies.length, scratch.words, scratch.length));
+    accepted("cells", setup_cells(state.words, state.length, cells + 1, WORDS(cells) - 1,
+                                  copies.words, copies.length, scratch.words, scratch.length));
+    accepted("finish", setup_finish(state.words, state.length, copies.words, copies.length,
+                                    scratch.words, scratch.length));
+    free(state.words);
+    free(scratch.words);
+    free(tables.words);
+}
+
+static void print_columns(const char *name, struct buffer columns)
+{
+    const uint64_t n = parameters[0];
+    for (uint64_t c = 0; c < columns.length / n; c++) {
+        printf("%s %" PRIu64, name, c);
+        for (uint64_t r = 0; r < n; r++) {
+            printf(" %" PRIu64, columns.words[c * n + r]);
+        }
+        printf("\n");
+    }
+}
+
+static void print_path(struct buffer plan, uint64_t gate)
+{
+    uint64_t path[2];
+    accepted("path", setup_path(plan.words, plan.length, gate, path, WORDS(path)));
+    printf("path %" PRIu64 "%s", gate, path[1] > 0 ? " " : "");
+    for (uint64_t i = 0; i < path[1]; i++) {
+        printf("%d", (int)(path[0] >> i & 1));
+    }
+    printf("\n");
+}
+
+int main(void)
+{
+    struct buffer plan = buffer(setup_plan_words());
+    accepted("plan", setup_plan(parameters, WORDS(parameters), gates, WORDS(gates),
+                                plan.words, plan.length));
+    uint64_t stats[3], id[2];
+    accepted("stats", setup_stats(plan.words, plan.length, stats, WORDS(stats)));
+    accepted("table_id", setup_table_id(plan.words, plan.length, id, WORDS(id)));
+
+    /* K + S constant columns and C copy columns of N words */
+    struct buffer constants = buffer((stats[1] + parameters[3]) * parameters[0]);
+    struct buffer copies = buffer(parameters[1] * parameters[0]);
+    give(plan, constants, copies);
+
+    printf("plan %" PRIu64 " %" PRIu64 " %" PRIu64 "\n", stats[0], stats[1], stats[2]);
+    for (uint64_t gate = 0; gate < WORDS(gates) / 3; gate++) {
+        print_path(plan, gate);
+    }
+    print_columns("constant", constants);
+    print_columns("copy", copies);
+    printf("ids");
+    if (id[0] == 1) {
+        printf(" %" PRIu64, id[1]);
+    }
+    printf("\n");
+    free(plan.words);
+    free(constants.words);
+    free(copies.words);
+    return 0;
+}

@@ -1,0 +1,85 @@
+//! Document 01's "Run only" cases: the ends of what is taken.
+use crate::beside_original;
+use crate::circuit::{Circuit, PLACEHOLDER};
+use crate::encoding::{NODE_COUNT, PLAN_WORDS};
+use crate::figures::Figures;
+use crate::random::Random;
+use crate::script::{self, accepted, opened, planned};
+use crate::sides::{Call, Sides, PLAN};
+
+const MOST_VARIABLES: u64 = 1048576;
+
+fn refused(sides: &mut Sides, f: &mut Figures, call: Call, number: u64) -> Result<(), String> {
+    match sides.make(f, call)? {
+        met if met == number => Ok(()),
+        met => Err(format!("{}: {met}, not {number}", call.name())),
+    }
+}
+
+fn ready(r: &mut Random, f: &mut Figures, x: &Circuit) -> Result<Sides, String> {
+    let mut sides = Sides::new(r);
+    match planned(r, &mut sides, f, x)? {
+        true => opened(r, &mut sides, f)?,
+        false => return Err("planning was refused: 8".to_string()),
+    }
+    Ok(sides)
+}
+
+/// "N=65,536 taken, 131,072 gives 1."
+fn trace(r: &mut Random, f: &mut Figures) -> Result<(), String> {
+    let mut x = Circuit::plain([65536, 2, 0, 1, 3, 0, 0, 0], &[[1, 0, 0]]);
+    x.cells = vec![2; 65536];
+    x.cells.extend(vec![PLACEHOLDER; 65535]);
+    let mut sides = ready(r, f, &x)?;
+    accepted(&mut sides, f, Call::Rows(&x.rows.concat()))?;
+    accepted(&mut sides, f, Call::SWords(&x.s_words))?;
+    accepted(&mut sides, f, Call::Cells(&x.cells))?;
+    refused(&mut sides, f, Call::Cells(&[0, 0]), 13)?;
+    x.cells.push(0);
+    accepted(&mut sides, f, Call::Cells(&[0]))?;
+    accepted(&mut sides, f, Call::Finish)?;
+    beside_original(r, f, &x, Some(sides))?;
+    let parameters = [131072, 2, 0, 1, 3, 0, 0, 0];
+    refused(&mut Sides::new(r), f, Call::Plan(&parameters, &[1, 0, 0]), 1)
+}
+
+/// "Index V−1 taken, V gives 14." At the greatest V, also with unread bits set.
+fn index(r: &mut Random, f: &mut Figures) -> Result<(), String> {
+    let v = MOST_VARIABLES;
+    let mut x = Circuit::plain([4, 1, 0, 0, v, 0, 0, 0], &[[1, 0, 0]]);
+    x.cells = vec![v - 1, v - 1 | 1 << 62, 0, PLACEHOLDER | v];
+    let mut sides = ready(r, f, &x)?;
+    accepted(&mut sides, f, Call::Rows(&x.rows.concat()))?;
+    for word in [v, v + (1 << 32), v | 1 << 62, (1 << 48) - 1] {
+        refused(&mut sides, f, Call::Cells(&[v - 1, word]), 14)?;
+    }
+    accepted(&mut sides, f, Call::Cells(&x.cells))?;
+    accepted(&mut sides, f, Call::Finish)?;
+    beside_original(r, f, &x, Some(sides))?;
+    let parameters = [4, 1, 0, 0, v + 1, 0, 0, 0];
+    refused(&mut Sides::new(r), f, Call::Plan(&parameters, &[1, 0, 0]), 1)
+}
+
+/// "64 gates (0,2,0) placed at target 8; 65 give 8."
+fn gates(r: &mut Random, f: &mut Figures) -> Result<(), String> {
+    let parameters = [128, 1, 0, 0, 0, 0, 0, 0];
+    let x = Circuit::plain(parameters, &[[0, 2, 0]; 64]);
+    let finished = script::run(r, f, &x)?;
+    match &finished {
+        Some(sides) if sides.library[PLAN][NODE_COUNT + 1..PLAN_WORDS] == [8, 6, 8] => {}
+        _ => return Err("64 gates: not placed, or D, K, F other than 8, 6, 8".to_string()),
+    }
+    beside_original(r, f, &x, finished)?;
+    let x = Circuit::plain(parameters, &[[0, 2, 0]; 65]);
+    let mut sides = Sides::new(r);
+    refused(&mut sides, f, Call::Plan(&parameters, &x.gates.concat()), 8)?;
+    beside_original(r, f, &x, None)?;
+    refused(&mut sides, f, Call::Plan(&parameters, &[2, 0, 0].repeat(129)), 3)
+}
+
+pub fn run(f: &mut Figures) -> Result<(), String> {
+    let mut r = Random::new(1);
+    trace(&mut r, f)?;
+    index(&mut r, f)?;
+    gates(&mut r, f)
+}

@@ -1,0 +1,84 @@
+//! The library's answer to a whole circuit beside the original's.
+use crate::circuit::Circuit;
+use crate::encoding::{GATE_COUNT, NODE_COUNT};
+use crate::figures::Figures;
+use crate::random::Random;
+use crate::script::{accepted, named};
+use crate::sides::*;
+use oracle::{Outcome, Output};
+
+/// How many paths of a circuit are asked for.
+const PATHS: u64 = 8;
+
+fn asked<'a>(sides: &'a mut Sides, figures: &mut Figures, call: Call) -> Result<&'a [u64], String> {
+    sides.lent[OUT] = 3;
+    accepted(sides, figures, call)?;
+    Ok(&sides.library[OUT])
+}
+
+/// D, K, F, paths, nodes and table ids.
+fn plan_differs(
+    r: &mut Random,
+    sides: &mut Sides,
+    figures: &mut Figures,
+    o: &Output,
+) -> Result<Option<String>, String> {
+    if asked(sides, figures, Call::Stats)?[..3] != [o.d, o.k, o.f] {
+        return Ok(Some("D, K or F".to_string()));
+    }
+    let ids: &[u64] = match asked(sides, figures, Call::TableId)? {
+        [0, ..] => &[],
+        out => &out[1..2],
+    };
+    if ids != o.ids {
+        return Ok(Some("table ids".to_string()));
+    }
+    let gates = o.paths.len() as u64;
+    for i in 0..gates.min(PATHS) {
+        let gate = if gates <= PATHS { i } else { r.within(0, gates - 1) };
+        let path = &o.paths[gate as usize];
+        let bits = path.iter().enumerate().map(|(i, left)| (*left as u64) << i).sum::<u64>();
+        if asked(sides, figures, Call::Path(gate))?[..2] != [bits, path.len() as u64] {
+            return Ok(Some(format!("path of gate {gate}")));
+        }
+    }
+    let nodes = &sides.library[PLAN][GATE_COUNT + 1..=NODE_COUNT];
+    let known = o.nodes.len();
+    let same = nodes[..3 * known] == o.nodes.concat() && nodes.last() == Some(&(known as u64));
+    Ok((!same).then(|| "nodes".to_string()))
+}
+
+fn columns_differ(sides: &Sides, o: &Output) -> Option<String> {
+    let [constants, copies, _, tables] = named(sides);
+    let parts = [
+        (CONSTANTS, &o.constants, constants),
+        (COPIES, &o.copies, copies),
+        (TABLES, &o.tables, tables),
+    ];
+    parts.into_iter().find_map(|(buffer, columns, length)| {
+        let own = &sides.library[buffer][..length as usize];
+        (own != columns.concat()).then(|| format!("{} columns", NAMES[buffer]))
+    })
+}
+
+/// Compares with the original; `sides` are the finished ones, none where planning said 8.
+pub fn compare(
+    r: &mut Random,
+    figures: &mut Figures,
+    x: &Circuit,
+    sides: Option<Sides>,
+) -> Result<(), String> {
+    let outcome = oracle::outcome(&x.listing(), 1);
+    match (sides, outcome) {
+        (None, Outcome::Panicked(_)) => Ok(()),
+        (Some(mut sides), Outcome::Made(o)) => {
+            let what = plan_differs(r, &mut sides, figures, &o)?;
+            figures.originals += 1;
+            match what.or_else(|| columns_differ(&sides, &o)) {
+                None => Ok(()),
+                Some(what) => Err(format!("library and original differ: {what}")),
+            }
+        }
+        _ => Err("library and original: one refuses, the other does not".to_string()),
+    }
+}

@@ -1,0 +1,185 @@
+//! One call made twice: by the library, and by the model over words. Each side has its own
+//! buffers; after the call every word of them is compared, also those that were not lent.
+use crate::encoding::{PLAN_WORDS, STATE_WORDS};
+use crate::expected;
+use crate::figures::Figures;
+use crate::random::Random;
+use kinchoyu::raw;
+
+/// A call of the library. Plan, state, columns and results are the side's own buffers.
+#[derive(Clone, Copy, Debug)]
+pub enum Call<'a> {
+    Plan(&'a [u64], &'a [u64]),
+    Stats,
+    TableId,
+    Path(u64),
+    Label(u64, u64, u64),
+    Open,
+    Rows(&'a [u64]),
+    SWords(&'a [u64]),
+    Cells(&'a [u64]),
+    Tables(&'a [u64]),
+    Finish,
+    Run(&'a [u64]),
+}
+
+impl Call<'_> {
+    pub fn name(&self) -> &'static str {
+        match self {
+            Call::Plan(..) => "plan",
+            Call::Stats => "stats",
+            Call::TableId => "table_id",
+            Call::Path(_) => "path",
+            Call::Label(..) => "label",
+            Call::Open => "open",
+            Call::Rows(_) => "rows",
+            Call::SWords(_) => "s_words",
+            Call::Cells(_) => "cells",
+            Call::Tables(_) => "tables",
+            Call::Finish => "finish",
+            Call::Run(_) => "run",
+        }
+    }
+}
+
+/// The buffers, by these numbers.
+pub const PLAN: usize = 0;
+pub const STATE: usize = 1;
+pub const OUT: usize = 2;
+pub const CONSTANTS: usize = 3;
+pub const COPIES: usize = 4;
+pub const SCRATCH: usize = 5;
+pub const TABLES: usize = 6;
+pub const NAMES: [&str; 7] = ["plan", "state", "out", "constants", "copies", "scratch", "tables"];
+
+pub type Buffers = [Vec<u64>; 7];
+
+/// Both sides, and how many words of each buffer the next call is lent.
+#[derive(Clone)]
+pub struct Sides {
+    pub library: Buffers,
+    pub model: Buffers,
+    pub lent: [usize; 7],
+}
+
+fn by_library(call: Call, [plan, state, out, constants, copies, scratch, tables]: Lent) -> u64 {
+    match call {
+        Call::Plan(parameters, gates) => raw::plan(parameters, gates, plan),
+        Call::Stats => raw::stats(plan, out),
+        Call::TableId => raw::table_id(plan, out),
+        Call::Path(gate) => raw::path(plan, gate, out),
+        Call::Label(n, c, cell) => raw::label(n, c, cell, out),
+        Call::Open => raw::open(plan, state, constants, copies, scratch, tables),
+        Call::Rows(piece) => raw::rows(state, piece, constants),
+        Call::SWords(piece) => raw::s_words(state, piece, constants),
+        Call::Cells(piece) => raw::cells(state, piece, copies, scratch),
+        Call::Tables(piece) => raw::tables(state, piece, tables),
+        Call::Finish => raw::finish(state, copies, scratch),
+        Call::Run(listing) => raw::run(listing, constants, copies, scratch, tables),
+    }
+}
+
+fn by_model(call: Call, [plan, state, out, constants, copies, scratch, tables]: Lent) -> u64 {
+    match call {
+        Call::Plan(parameters, gates) => expected::plan(parameters, gates, plan),
+        Call::Stats => expected::stats(plan, out),
+        Call::TableId => expected::table_id(plan, out),
+        Call::Path(gate) => expected::path(plan, gate, out),
+        Call::Label(n, c, cell) => expected::label(n, c, cell, out),
+        Call::Open => expected::open(plan, state, constants, copies, scratch, tables),
+        Call::Rows(piece) => expected::rows(state, piece, constants),
+        Call::SWords(piece) => expected::s_words(state, piece, constants),
+        Call::Cells(piece) => expected::cells(state, piece, copies, scratch),
+        Call::Tables(piece) => expected::tables(state, piece, tables),
+        Call::Finish => expected::finish(state, copies, scratch),
+        Call::Run(listing) => expected::run(listing, constants, copies, scratch, tables),
+    }
+}
+
+type Lent<'a> = [&'a mut [u64]; 7];
+
+fn lend<'a>(buffers: &'a mut Buffers, lent: &[usize; 7]) -> Lent<'a> {
+    let mut lent = lent.iter();
+    buffers.each_mut().map(|buffer| &mut buffer[..*lent.next().unwrap()])
+}
+
+/// Words that no call leaves by chance.
+pub fn junk(r: &mut Random, length: usize) -> Vec<u64> {
+    let start = r.word();
+    (0..length as u64).map(|i| start.wrapping_add(i.wrapping_mul(0x9e3779b97f4a7c15))).collect()
+}
+
+impl Sides {
+    /// Room for a plan, a state and results, and no columns yet.
+    pub fn new(r: &mut Random) -> Sides {
+        let lengths = [PLAN_WORDS + 3, STATE_WORDS + 3, 6, 0, 0, 0, 0];
+        let library = lengths.map(|length| junk(r, length));
+        let lent = [PLAN_WORDS, STATE_WORDS, 3, 0, 0, 0, 0];
+        Sides { model: library.clone(), library, lent }
+    }
+
+    /// Columns of these lengths and some words beyond, all junk. All of them are lent.
+    pub fn allocate(&mut self, r: &mut Random, lengths: [u64; 4]) {
+        for (buffer, length) in (CONSTANTS..).zip(lengths) {
+            let beyond = r.within(0, 5);
+            self.library[buffer] = junk(r, (length + beyond) as usize);
+            self.model[buffer] = self.library[buffer].clone();
+            self.lent[buffer] = self.library[buffer].len();
+        }
+    }
+
+    /// Writes a word on both sides.
+    pub fn set(&mut self, buffer: usize, place: usize, word: u64) {
+        self.library[buffer][place] = word;
+        self.model[buffer][place] = word;
+    }
+
+    /// How many words the columns have.
+    pub fn size(&self) -> usize {
+        self.library[CONSTANTS..].iter().map(|buffer| buffer.len()).sum()
+    }
+
+    /// Makes a call on both sides. Its number, or what differs.
+    pub fn make(&mut self, figures: &mut Figures, call: Call) -> Result<u64, String> {
+        let number = by_library(call, lend(&mut self.library, &self.lent));
+        let wanted = by_model(call, lend(&mut self.model, &self.lent));
+        figures.call(call.name(), number, self.library.iter().map(|buffer| buffer.len()).sum());
+        let what = match self.difference() {
+            None if number == wanted => return Ok(number),
+            None => "the words are equal".to_string(),
+            Some(what) => what,
+        };
+        let said: String = format!("{call:?}").chars().take(500).collect();
+        Err(format!("{what}; answers {number} and {wanted}; lent {:?}; {said}", self.lent))
+    }
+
+    fn difference(&self) -> Option<String> {
+        let buffer = (0..7).find(|buffer| self.library[*buffer] != self.model[*buffer])?;
+        let (library, model) = (&self.library[buffer], &self.model[buffer]);
+        let place = (0..library.len()).find(|place| library[*place] != model[*place])?;
+        let (left, wanted) = (library[place], model[place]);
+        Some(format!("{} word {place}: library {left}, model {wanted}", NAMES[buffer]))
+    }
+
+    /// The same call with some words fewer lent of one buffer, as often as not just one fewer
+    /// than `named`.
+    pub fn make_short(
+        &mut self,
+        r: &mut Random,
+        figures: &mut Figures,
+        call: Call,
+        buffer: usize,
+        named: usize,
+    ) -> Result<(), String> {
+        let all = self.lent[buffer];
+        if named > 0 {
+            self.lent[buffer] = r.ends(&[named as u64 - 1], 0, named as u64 - 1) as usize;
+            let number = self.make(figures, call)?;
+            if number == 0 {
+                return Err(format!("{} was taken with a short {}", call.name(), NAMES[buffer]));
+            }
+        }
+        self.lent[buffer] = all;
+        Ok(())
+    }
+}

@@ -1,0 +1,127 @@
+//! The intake: an opened circuit that takes its sections piece by piece.
+use crate::columns::Lent;
+use crate::plan::Plan;
+use crate::raw;
+use crate::refusal::{answer, Refusal};
+
+/// A cell of a copy column.
+#[derive(Clone, Copy, Debug, PartialEq, Eq)]
+pub enum Cell {
+    /// A variable's index.
+    Variable(u64),
+    /// No variable: the cell keeps its own label.
+    Placeholder,
+}
+
+impl Cell {
+    /// The cell's word. It has 48 bits for an index; a longer one becomes the greatest, which is
+    /// never below V, so that it is refused and not cut.
+    pub fn word(self) -> u64 {
+        match self {
+            Cell::Variable(index) => index.min((1 << 48) - 1),
+            Cell::Placeholder => 1 << 63,
+        }
+    }
+}
+
+/// An open circuit and the buffers lent to it. A refused call writes no word of them and leaves
+/// the intake as it was. Pieces hold whole records, may be empty, and sections may alternate.
+pub struct Intake<'a> {
+    state: Vec<u64>,
+    lent: Lent<'a>,
+}
+
+impl<'a> Intake<'a> {
+    /// Opens the columns: named words are zeroed, labels written. Refusals 10 and 9.
+    pub fn open(plan: &Plan, lent: Lent<'a>) -> Result<Intake<'a>, Refusal> {
+        let mut state = vec![0; raw::state_words()];
+        let Lent { constants, copies, scratch, tables } = lent;
+        answer(raw::open(plan.words(), &mut state, constants, copies, scratch, tables))?;
+        Ok(Intake { state, lent: Lent { constants, copies, scratch, tables } })
+    }
+
+    /// Goes on from a state kept as words, with the buffers that go with it. Refusals 19 and 10.
+    pub fn resume(state: &[u64], lent: Lent<'a>) -> Result<Intake<'a>, Refusal> {
+        let mut intake = Intake { state: state.to_vec(), lent };
+        // empty pieces: they change nothing, and each tests the state and its own buffers
+        intake.rows(&[])?;
+        intake.cells(&[])?;
+        intake.tables(&[])?;
+        Ok(intake)
+    }
+
+    /// The state's words, for keeping.
+    pub fn state(&self) -> &[u64] {
+        &self.state
+    }
+
+    /// Row records: gate, number of constants, constants. Refusals 12, 11, 13.
+    pub fn rows(&mut self, piece: &[u64]) -> Result<(), Refusal> {
+        answer(raw::rows(&mut self.state, piece, self.lent.constants))
+    }
+
+    /// Rows, each a gate and its constants, as one piece.
+    pub fn rows_from<R: AsRef<[u64]>>(
+        &mut self,
+        rows: impl IntoIterator<Item = (u64, R)>,
+    ) -> Result<(), Refusal> {
+        let mut piece = vec![];
+        for (gate, constants) in rows {
+            let constants = constants.as_ref();
+            piece.extend([gate, constants.len() as u64]);
+            piece.extend(constants);
+        }
+        self.rows(&piece)
+    }
+
+    /// Words of the specialised constant columns, column by column. Refusals 13, 11.
+    pub fn s_words(&mut self, piece: &[u64]) -> Result<(), Refusal> {
+        answer(raw::s_words(&mut self.state, piece, self.lent.constants))
+    }
+
+    /// The same from an iterator, as one piece.
+    pub fn s_words_from(&mut self, words: impl IntoIterator<Item = u64>) -> Result<(), Refusal> {
+        let piece: Vec<u64> = words.into_iter().collect();
+        self.s_words(&piece)
+    }
+
+    /// Cell words of the copy columns, column by column. Refusals 13, 14.
+    pub fn cells(&mut self, piece: &[u64]) -> Result<(), Refusal> {
+        answer(raw::cells(&mut self.state, piece, self.lent.copies, self.lent.scratch))
+    }
+
+    /// Cells, as one piece.
+    pub fn cells_from(&mut self, cells: impl IntoIterator<Item = Cell>) -> Result<(), Refusal> {
+        let piece: Vec<u64> = cells.into_iter().map(Cell::word).collect();
+        self.cells(&piece)
+    }
+
+    /// Table records: width, rows, contents row by row. Refusals 15, 11.
+    pub fn tables(&mut self, piece: &[u64]) -> Result<(), Refusal> {
+        answer(raw::tables(&mut self.state, piece, self.lent.tables))
+    }
+
+    /// One table of rows that are `width` words each. A row of another length is refusal 15.
+    pub fn table_from<R: AsRef<[u64]>>(
+        &mut self,
+        width: u64,
+        rows: impl IntoIterator<Item = R>,
+    ) -> Result<(), Refusal> {
+        let mut piece = vec![width, 0];
+        for row in rows {
+            let row = row.as_ref();
+            if row.len() as u64 != width {
+                return Err(Refusal::Table);
+            }
+            piece[1] += 1;
+            piece.extend(row);
+        }
+        self.tables(&piece)
+    }
+
+    /// Closes every variable's cycle. Refusals 16, 17, 18; after an accepted one every call is
+    /// refusal 19.
+    pub fn finish(&mut self) -> Result<(), Refusal> {
+        answer(raw::finish(&mut self.state, self.lent.copies, self.lent.scratch))
+    }
+}

@@ -1,0 +1,53 @@
+//! A whole listing in one call.
+use crate::columns::{Columns, Lent};
+use crate::plan::Plan;
+use crate::raw;
+use crate::refusal::{answer, Refusal};
+
+/// Runs a listing in buffers that a caller lends. Refusal 20 where it is no whole listing, then
+/// those of planning, opening, the sections and finishing; a refused one writes no word.
+pub fn run_in(listing: &[u64], lent: Lent) -> Result<(), Refusal> {
+    answer(raw::run(listing, lent.constants, lent.copies, lent.scratch, lent.tables))
+}
+
+/// The plan of a listing, which is not tested beyond its gates.
+fn plan_of(listing: &[u64]) -> Result<Plan, Refusal> {
+    let [8, rest @ ..] = listing else { return Err(Refusal::Listing) };
+    let (parameters, rest) = rest.split_at_checked(8).ok_or(Refusal::Listing)?;
+    let (count, rest) = rest.split_first().ok_or(Refusal::Listing)?;
+    let words = count.checked_mul(3).ok_or(Refusal::Listing)?;
+    let (gates, _) = rest.split_at_checked(words as usize).ok_or(Refusal::Listing)?;
+    Plan::planned(parameters, gates)
+}
+
+/// Runs a listing in buffers of just its size; gives its plan and its columns.
+///
+/// ```
+/// let listing = [
+///     8, 2, 2, 1, 0, 2, 0, 0, 0, // N, C, A, S, V, mode, W, share flag
+///     2, 0, 2, 1, 1, 0, 0, // gates
+///     2, 0, 1, 5, 1, 0, // rows
+///     0, // S words
+///     4, 0, 1, 1, 1 << 63, // cells
+///     0, // tables
+/// ];
+/// let (plan, columns) = kinchoyu::run(&listing)?;
+/// assert_eq!(plan.stats().constants, 2);
+/// assert!(columns.constants().eq([[1, 0], [5, 0]]));
+/// assert_eq!(kinchoyu::run(&listing[1..]), Err(kinchoyu::Refusal::Listing));
+/// # Ok::<(), kinchoyu::Refusal>(())
+/// ```
+pub fn run(listing: &[u64]) -> Result<(Plan, Columns), Refusal> {
+    let plan = match plan_of(listing) {
+        Ok(plan) => plan,
+        // a listing that is not whole is refused as such before its plan is
+        Err(refusal) => {
+            let none =
+                Lent { constants: &mut [], copies: &mut [], scratch: &mut [], tables: &mut [] };
+            return Err(run_in(listing, none).err().unwrap_or(refusal));
+        }
+    };
+    let mut columns = Columns::new(&plan);
+    run_in(listing, columns.lend())?;
+    Ok((plan, columns))
+}

@@ -1,0 +1,105 @@
+//! A plan: where the gates stand in the selector tree, and what is asked of it.
+use crate::parameters::{Gate, Parameters};
+use crate::raw;
+use crate::refusal::{answer, Refusal};
+use std::fmt;
+
+/// A plan that the library gave, or that it found to be sound.
+#[derive(Clone, Debug, PartialEq, Eq)]
+pub struct Plan {
+    words: Vec<u64>,
+}
+
+/// D, K and F: the greatest degree at depth, the greatest constants plus depth, and the factor
+/// of the quotient.
+#[derive(Clone, Copy, Debug, PartialEq, Eq)]
+pub struct Stats {
+    pub degree: u64,
+    pub constants: u64,
+    pub factor: u64,
+}
+
+/// A gate's path from the root: 1 is left, 0 is right.
+#[derive(Clone, Copy, Debug, PartialEq, Eq)]
+pub struct Path {
+    /// Bit i, from the least, is step i.
+    pub bits: u64,
+    pub length: u64,
+}
+
+impl Path {
+    /// The steps from the root; true is left.
+    pub fn steps(self) -> impl Iterator<Item = bool> {
+        (0..self.length).map(move |i| self.bits >> i & 1 == 1)
+    }
+}
+
+/// Its digits, with nothing between them.
+impl fmt::Display for Path {
+    fn fmt(&self, f: &mut fmt::Formatter<'_>) -> fmt::Result {
+        self.steps().try_for_each(|left| f.write_str(if left { "1" } else { "0" }))
+    }
+}
+
+impl Plan {
+    /// Plans for these parameters and gates. Refusals 1 to 8.
+    pub fn new(parameters: &Parameters, gates: &[Gate]) -> Result<Plan, Refusal> {
+        let gates: Vec<u64> = gates.iter().flat_map(|gate| gate.words()).collect();
+        Plan::planned(&parameters.words(), &gates)
+    }
+
+    pub(crate) fn planned(parameters: &[u64], gates: &[u64]) -> Result<Plan, Refusal> {
+        let mut words = vec![0; raw::plan_words()];
+        answer(raw::plan(parameters, gates, &mut words))?;
+        Ok(Plan { words })
+    }
+
+    /// A plan kept as words. Refusal 19 where they are made up.
+    pub fn from_words(words: &[u64]) -> Result<Plan, Refusal> {
+        answer(raw::stats(words, &mut [0; 3]))?;
+        Ok(Plan { words: words.to_vec() })
+    }
+
+    /// Its words, for keeping.
+    pub fn words(&self) -> &[u64] {
+        &self.words
+    }
+
+    /// The parameters that it was made for.
+    pub fn parameters(&self) -> Parameters {
+        let words = self.words[..8].try_into().expect("eight words");
+        Parameters::from_words(words).expect("a sound plan has a lookup mode")
+    }
+
+    /// D, K and F.
+    pub fn stats(&self) -> Stats {
+        let mut out = [0; 3];
+        answer(raw::stats(&self.words, &mut out)).expect("a sound plan");
+        let [degree, constants, factor] = out;
+        Stats { degree, constants, factor }
+    }
+
+    /// The path of a gate, empty for one without selector. Refusal 12 for one not listed.
+    pub fn path(&self, gate: u64) -> Result<Path, Refusal> {
+        let mut out = [0; 2];
+        answer(raw::path(&self.words, gate, &mut out))?;
+        let [bits, length] = out;
+        Ok(Path { bits, length })
+    }
+
+    /// Which constant column holds table ids, if one does.
+    pub fn table_id(&self) -> Option<u64> {
+        let mut out = [0; 2];
+        answer(raw::table_id(&self.words, &mut out)).expect("a sound plan");
+        let [count, index] = out;
+        (count == 1).then_some(index)
+    }
+}
+
+/// The label of a cell of `copy` columns of `trace` rows: column c, row r has number
+/// c * trace + r. Refusals 1 and 9.
+pub fn label(trace: u64, copy: u64, cell: u64) -> Result<u64, Refusal> {
+    let mut out = [0];
+    answer(raw::label(trace, copy, cell, &mut out))?;
+    Ok(out[0])
+}

@@ -1,0 +1,187 @@
+//! The library's functions over words alone. Each takes any words at all and answers 0 or a
+//! refusal's number; what it leaves in each slice stands in `include/kinchoyu.h`.
+//!
+//! Rust's references are all that the library asks of a slice: it may be read or written for its
+//! whole length, and no written one overlaps another.
+use crate::c;
+
+/// How many words a plan has.
+pub fn plan_words() -> usize {
+    // SAFETY: it takes nothing.
+    unsafe { c::setup_plan_words() as usize }
+}
+
+/// How many words a state has.
+pub fn state_words() -> usize {
+    // SAFETY: it takes nothing.
+    unsafe { c::setup_state_words() as usize }
+}
+
+/// The plan for eight parameter words and the gates' words, three each.
+pub fn plan(parameters: &[u64], gates: &[u64], plan: &mut [u64]) -> u64 {
+    // SAFETY: pointers and lengths of references, as said above.
+    unsafe {
+        c::setup_plan(
+            parameters.as_ptr(),
+            parameters.len(),
+            gates.as_ptr(),
+            gates.len(),
+            plan.as_mut_ptr(),
+            plan.len(),
+        )
+    }
+}
+
+/// Bits and length of a gate's path; bit i, from the least, is step i from the root.
+pub fn path(plan: &[u64], gate: u64, out: &mut [u64]) -> u64 {
+    // SAFETY: pointers and lengths of references, as said above.
+    unsafe { c::setup_path(plan.as_ptr(), plan.len(), gate, out.as_mut_ptr(), out.len()) }
+}
+
+/// The number of table-id columns, 0 or 1, and its index.
+pub fn table_id(plan: &[u64], out: &mut [u64]) -> u64 {
+    // SAFETY: pointers and lengths of references, as said above.
+    unsafe { c::setup_table_id(plan.as_ptr(), plan.len(), out.as_mut_ptr(), out.len()) }
+}
+
+/// D, K and F.
+pub fn stats(plan: &[u64], out: &mut [u64]) -> u64 {
+    // SAFETY: pointers and lengths of references, as said above.
+    unsafe { c::setup_stats(plan.as_ptr(), plan.len(), out.as_mut_ptr(), out.len()) }
+}
+
+/// The label of the cell whose number is cN + r.
+pub fn label(n: u64, c: u64, cell: u64, out: &mut [u64]) -> u64 {
+    // SAFETY: pointers and lengths of references, as said above.
+    unsafe { c::setup_label(n, c, cell, out.as_mut_ptr(), out.len()) }
+}
+
+/// Opens the columns of a plan.
+pub fn open(
+    plan: &[u64],
+    state: &mut [u64],
+    constants: &mut [u64],
+    copies: &mut [u64],
+    scratch: &mut [u64],
+    tables: &mut [u64],
+) -> u64 {
+    // SAFETY: pointers and lengths of references, as said above.
+    unsafe {
+        c::setup_open(
+            plan.as_ptr(),
+            plan.len(),
+            state.as_mut_ptr(),
+            state.len(),
+            constants.as_mut_ptr(),
+            constants.len(),
+            copies.as_mut_ptr(),
+            copies.len(),
+            scratch.as_mut_ptr(),
+            scratch.len(),
+            tables.as_mut_ptr(),
+            tables.len(),
+        )
+    }
+}
+
+/// Row records: gate, number of constants, constants.
+pub fn rows(state: &mut [u64], piece: &[u64], constants: &mut [u64]) -> u64 {
+    // SAFETY: pointers and lengths of references, as said above.
+    unsafe {
+        c::setup_rows(
+            state.as_mut_ptr(),
+            state.len(),
+            piece.as_ptr(),
+            piece.len(),
+            constants.as_mut_ptr(),
+            constants.len(),
+        )
+    }
+}
+
+/// Words of the specialised constant columns.
+pub fn s_words(state: &mut [u64], piece: &[u64], constants: &mut [u64]) -> u64 {
+    // SAFETY: pointers and lengths of references, as said above.
+    unsafe {
+        c::setup_s_words(
+            state.as_mut_ptr(),
+            state.len(),
+            piece.as_ptr(),
+            piece.len(),
+            constants.as_mut_ptr(),
+            constants.len(),
+        )
+    }
+}
+
+/// Cell words of the copy columns.
+pub fn cells(state: &mut [u64], piece: &[u64], copies: &mut [u64], scratch: &mut [u64]) -> u64 {
+    // SAFETY: pointers and lengths of references, as said above.
+    unsafe {
+        c::setup_cells(
+            state.as_mut_ptr(),
+            state.len(),
+            piece.as_ptr(),
+            piece.len(),
+            copies.as_mut_ptr(),
+            copies.len(),
+            scratch.as_mut_ptr(),
+            scratch.len(),
+        )
+    }
+}
+
+/// Table records: width, rows, contents row by row.
+pub fn tables(state: &mut [u64], piece: &[u64], tables: &mut [u64]) -> u64 {
+    // SAFETY: pointers and lengths of references, as said above.
+    unsafe {
+        c::setup_tables(
+            state.as_mut_ptr(),
+            state.len(),
+            piece.as_ptr(),
+            piece.len(),
+            tables.as_mut_ptr(),
+            tables.len(),
+        )
+    }
+}
+
+/// Finishing; scratch is read alone.
+pub fn finish(state: &mut [u64], copies: &mut [u64], scratch: &[u64]) -> u64 {
+    // SAFETY: pointers and lengths of references, as said above.
+    unsafe {
+        c::setup_finish(
+            state.as_mut_ptr(),
+            state.len(),
+            copies.as_mut_ptr(),
+            copies.len(),
+            scratch.as_ptr(),
+            scratch.len(),
+        )
+    }
+}
+
+/// A whole listing in one call.
+pub fn run(
+    listing: &[u64],
+    constants: &mut [u64],
+    copies: &mut [u64],
+    scratch: &mut [u64],
+    tables: &mut [u64],
+) -> u64 {
+    // SAFETY: pointers and lengths of references, as said above.
+    unsafe {
+        c::setup_run(
+            listing.as_ptr(),
+            listing.len(),
+            constants.as_mut_ptr(),
+            constants.len(),
+            copies.as_mut_ptr(),
+            copies.len(),
+            scratch.as_mut_ptr(),
+            scratch.len(),
+            tables.as_mut_ptr(),
+            tables.len(),
+        )
+    }
+}

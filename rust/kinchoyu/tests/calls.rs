@@ -1,0 +1,152 @@
+//! The crate's own part: what it adds to the library's words.
+use kinchoyu::*;
+
+const PARAMETERS: Parameters = Parameters {
+    trace: 4,
+    copy: 1,
+    allowed: 1,
+    specialised: 1,
+    variables: 3,
+    lookup: Lookup::SpecialisedAsConstant { width: 2, share: true },
+};
+const GATES: [Gate; 2] = [Gate::Evaluated { degree: 2, constants: 1 }, Gate::Unselected];
+
+fn plan() -> Plan {
+    Plan::new(&PARAMETERS, &GATES).unwrap()
+}
+
+/// Gives all but the last cell and finishing.
+fn fill(intake: &mut Intake) -> Result<(), Refusal> {
+    intake.s_words_from(1..5)?;
+    intake.rows_from([(0, [6]), (0, [7])])?;
+    intake.rows(&[1, 0, 0, 0])?;
+    intake.table_from(2, [[1, 2], [3, 4]])?;
+    intake.table_from(2, [] as [[u64; 2]; 0])?;
+    intake.tables(&[2, 1, 5, 6])?;
+    intake.cells_from([Cell::Variable(2), Cell::Placeholder, Cell::Variable(2)])
+}
+
+#[test]
+fn columns_of_a_circuit_in_pieces() {
+    let plan = plan();
+    let mut columns = Columns::new(&plan);
+    let mut intake = Intake::open(&plan, columns.lend()).unwrap();
+    fill(&mut intake).unwrap();
+    assert_eq!(intake.finish(), Err(Refusal::Incomplete));
+    intake.cells(&[0]).unwrap();
+    intake.finish().unwrap();
+    assert_eq!(intake.finish(), Err(Refusal::MadeUp));
+    assert!(columns.constants().eq([[6, 7, 0, 0], [1, 2, 3, 4]]));
+    assert!(columns.tables().eq([[1, 3, 5, 0], [2, 4, 6, 0], [1, 1, 3, 0]]));
+    let own: Vec<u64> = (0..4).map(|cell| label(4, 1, cell).unwrap()).collect();
+    assert!(columns.copies().eq([[own[2], own[1], own[0], own[3]]]));
+}
+
+#[test]
+fn lent_buffers_keep_the_words_beyond() {
+    let plan = plan();
+    let lengths = Lengths::of(&plan);
+    let lent = |length: usize| vec![9; length + 3];
+    let mut buffers =
+        [lengths.constants, lengths.copies, lengths.scratch, lengths.tables].map(lent);
+    let [constants, copies, scratch, tables] = &mut buffers;
+    let mut intake = Intake::open(&plan, Lent { constants, copies, scratch, tables }).unwrap();
+    fill(&mut intake).unwrap();
+    assert!(buffers.iter().all(|buffer| buffer.ends_with(&[9, 9, 9])));
+    let [constants, copies, scratch, tables] = &mut buffers;
+    let short = &mut copies[..lengths.copies - 1];
+    let opened = Intake::open(&plan, Lent { constants, copies: short, scratch, tables });
+    assert_eq!(opened.err(), Some(Refusal::ShortBuffer));
+}
+
+#[test]
+fn plans_and_states_are_kept_as_words() {
+    let plan = plan();
+    assert_eq!(Plan::from_words(plan.words()), Ok(plan.clone()));
+    let mut made_up = plan.words().to_vec();
+    made_up[1159] += 1;
+    assert_eq!(Plan::from_words(&made_up), Err(Refusal::MadeUp));
+    assert_eq!(Plan::from_words(&made_up[1..]), Err(Refusal::MadeUp));
+
+    let (mut whole, mut kept) = (Columns::new(&plan), Columns::new(&plan));
+    let mut intake = Intake::open(&plan, whole.lend()).unwrap();
+    fill(&mut intake).unwrap();
+    intake.cells(&[1]).unwrap();
+    intake.finish().unwrap();
+    let mut intake = Intake::open(&plan, kept.lend()).unwrap();
+    fill(&mut intake).unwrap();
+    let state = intake.state().to_vec();
+    let mut resumed = Intake::resume(&state, kept.lend()).unwrap();
+    resumed.cells(&[1]).unwrap();
+    resumed.finish().unwrap();
+    let finished = resumed.state().to_vec();
+    assert_eq!(Intake::resume(&finished, kept.lend()).err(), Some(Refusal::MadeUp));
+    assert_eq!(whole, kept);
+}
+
+#[test]
+fn what_is_asked_of_a_plan() {
+    let plan = plan();
+    assert_eq!(plan.parameters(), PARAMETERS);
+    assert_eq!(plan.stats(), Stats { degree: 2, constants: 1, factor: 1 });
+    assert_eq!(plan.table_id(), Some(1));
+    assert_eq!(plan.path(1).unwrap().to_string(), "");
+    assert_eq!(plan.path(2), Err(Refusal::RowRecord));
+    let gates = [(2, 1), (1, 0)].map(|(degree, constants)| Gate::Evaluated { degree, constants });
+    let parameters = Parameters { lookup: Lookup::None, ..PARAMETERS };
+    let plan = Plan::new(&parameters, &[gates[0], gates[1], Gate::Marker]).unwrap();
+    let paths = [0, 1, 2].map(|gate| plan.path(gate).unwrap().to_string());
+    assert_eq!(paths, ["1", "01", "00"]);
+    assert_eq!(plan.table_id(), None);
+}
+
+#[test]
+fn refusals_have_the_numbers_of_document_01() {
+    let numbers: Vec<u64> = Refusal::all().map(Refusal::number).collect();
+    assert_eq!(numbers, (1..21).collect::<Vec<u64>>());
+    assert_eq!((Refusal::from_number(0), Refusal::from_number(21)), (None, None));
+    let said = Refusal::Variable.to_string();
+    assert_eq!(said, "refused 14 (Variable): a cell names a variable that is not below V");
+    let wide = Parameters { trace: 131072, ..PARAMETERS };
+    assert_eq!(Plan::new(&wide, &GATES), Err(Refusal::Parameter));
+    let unshared = Lookup::SpecialisedAsConstant { width: 2, share: false };
+    let unshared = Parameters { lookup: unshared, ..PARAMETERS };
+    assert_eq!(Plan::new(&unshared, &GATES), Err(Refusal::ShareFlag));
+    assert_eq!(Plan::new(&PARAMETERS, &[]), Err(Refusal::GateCount));
+}
+
+#[test]
+fn a_listing_in_one_call() {
+    let listing = |count: u64, trace: u64, cells: [u64; 2]| {
+        let parameters = [count, trace, 2, 0, 0, 2, 0, 0, 0];
+        let sections: [&[u64]; 5] = [&[1, 1, 0, 0, 1, 0, 0, 0, 2], &cells, &[0], &[], &[]];
+        [&parameters[..], &sections.concat()].concat()
+    };
+    let (plan, columns) = run(&listing(8, 1, [1, 1])).unwrap();
+    assert_eq!(plan, Plan::new(&plan.parameters(), &[Gate::Marker]).unwrap());
+    let own = [0, 1].map(|cell| label(1, 2, cell).unwrap());
+    assert!(columns.copies().eq([[own[1]], [own[0]]]));
+    assert_eq!(run(&listing(8, 1, [2, 0])), Err(Refusal::Variable));
+    assert_eq!(run(&listing(8, 3, [0, 0])), Err(Refusal::Parameter));
+    assert_eq!(run(&listing(9, 1, [0, 0])), Err(Refusal::Listing));
+    assert_eq!(run(&[]), Err(Refusal::Listing));
+    // not whole, and a parameter out of range: 20 comes first
+    let cut = listing(8, 3, [0, 0]);
+    assert_eq!(run(&cut[..cut.len() - 1]), Err(Refusal::Listing));
+    let (mut copies, mut scratch) = ([7; 2], [7; 3]);
+    let lent =
+        Lent { constants: &mut [], copies: &mut copies, scratch: &mut scratch, tables: &mut [] };
+    assert_eq!(run_in(&listing(8, 1, [0, 0]), lent), Err(Refusal::ShortBuffer));
+    assert_eq!((copies, scratch), ([7; 2], [7; 3]));
+}
+
+#[test]
+fn an_index_of_more_than_48_bits_is_refused_and_not_cut() {
+    let plan = plan();
+    let mut columns = Columns::new(&plan);
+    let mut intake = Intake::open(&plan, columns.lend()).unwrap();
+    for index in [3, 1 << 48, 1 << 63, u64::MAX] {
+        assert_eq!(intake.cells_from([Cell::Variable(index)]), Err(Refusal::Variable));
+    }
+    assert_eq!(intake.table_from(2, [[1, 2].as_slice(), &[3]]), Err(Refusal::Table));
+}
