@@ -1,70 +1,7 @@
 //! The proved library with buffers lent to it.
 use crate::circuits::Circuit;
+use kinchoyu::raw;
 use std::time::{Duration, Instant};
-
-#[link(name = "capi", kind = "static")]
-extern "C" {
-    fn setup_plan_words() -> u64;
-    fn setup_state_words() -> u64;
-    fn setup_plan(
-        ps: *const u64,
-        pn: usize,
-        gs: *const u64,
-        gn: usize,
-        plan: *mut u64,
-        n: usize,
-    ) -> u64;
-    #[allow(clippy::too_many_arguments)]
-    fn setup_open(
-        plan: *const u64,
-        pn: usize,
-        state: *mut u64,
-        sn: usize,
-        constants: *mut u64,
-        kn: usize,
-        copies: *mut u64,
-        cn: usize,
-        scratch: *mut u64,
-        vn: usize,
-        tables: *mut u64,
-        tn: usize,
-    ) -> u64;
-    fn setup_rows(s: *mut u64, sn: usize, p: *const u64, pn: usize, b: *mut u64, bn: usize) -> u64;
-    fn setup_s_words(
-        s: *mut u64,
-        sn: usize,
-        p: *const u64,
-        pn: usize,
-        b: *mut u64,
-        bn: usize,
-    ) -> u64;
-    fn setup_cells(
-        s: *mut u64,
-        sn: usize,
-        p: *const u64,
-        pn: usize,
-        b: *mut u64,
-        bn: usize,
-        v: *mut u64,
-        vn: usize,
-    ) -> u64;
-    fn setup_tables(
-        s: *mut u64,
-        sn: usize,
-        p: *const u64,
-        pn: usize,
-        b: *mut u64,
-        bn: usize,
-    ) -> u64;
-    fn setup_finish(
-        s: *mut u64,
-        sn: usize,
-        b: *mut u64,
-        bn: usize,
-        v: *const u64,
-        vn: usize,
-    ) -> u64;
-}
 
 /// A circuit's words and buffers that are long enough for it.
 pub struct Lent {
@@ -100,7 +37,7 @@ impl Lent {
             cells: x.cells.clone(),
             tables: x.tables.clone(),
             table_words: x.tables.concat(),
-            state: vec![0; unsafe { setup_state_words() } as usize],
+            state: vec![0; raw::state_words()],
             constant_columns: room(47 + s),
             copy_columns: room(c),
             scratch: vec![0; 2 * v as usize],
@@ -109,41 +46,20 @@ impl Lent {
     }
 
     pub fn plan(&self) -> Vec<u64> {
-        let mut plan = vec![0; unsafe { setup_plan_words() } as usize];
-        let (ps, gs) = (&self.parameters, &self.gates);
-        accepted(unsafe {
-            setup_plan(ps.as_ptr(), 8, gs.as_ptr(), gs.len(), plan.as_mut_ptr(), plan.len())
-        });
+        let mut plan = vec![0; raw::plan_words()];
+        accepted(raw::plan(&self.parameters, &self.gates, &mut plan));
         plan
     }
 
-    pub fn open(&mut self, plan: &[u64]) {
-        let (s, k, c) = (&mut self.state, &mut self.constant_columns, &mut self.copy_columns);
-        let (v, t) = (&mut self.scratch, &mut self.table_columns);
-        accepted(unsafe {
-            setup_open(
-                plan.as_ptr(),
-                plan.len(),
-                s.as_mut_ptr(),
-                s.len(),
-                k.as_mut_ptr(),
-                k.len(),
-                c.as_mut_ptr(),
-                c.len(),
-                v.as_mut_ptr(),
-                v.len(),
-                t.as_mut_ptr(),
-                t.len(),
-            )
-        });
+    fn open(&mut self, plan: &[u64]) {
+        let (constants, copies) = (&mut self.constant_columns, &mut self.copy_columns);
+        let (scratch, tables) = (&mut self.scratch, &mut self.table_columns);
+        accepted(raw::open(plan, &mut self.state, constants, copies, scratch, tables));
     }
 
     fn give_rows(&mut self, most: usize) {
-        let (s, k) = (&mut self.state, &mut self.constant_columns);
-        let mut give = |piece: &[u64]| {
-            let (p, n) = (piece.as_ptr(), piece.len());
-            accepted(unsafe { setup_rows(s.as_mut_ptr(), s.len(), p, n, k.as_mut_ptr(), k.len()) })
-        };
+        let mut give =
+            |piece: &[u64]| accepted(raw::rows(&mut self.state, piece, &mut self.constant_columns));
         if most == usize::MAX {
             return give(&self.row_words);
         }
@@ -151,42 +67,21 @@ impl Lent {
     }
 
     fn give_s_words(&mut self, most: usize) {
-        let (s, k) = (&mut self.state, &mut self.constant_columns);
         for piece in self.s_words.chunks(most) {
-            let (p, n) = (piece.as_ptr(), piece.len());
-            accepted(unsafe {
-                setup_s_words(s.as_mut_ptr(), s.len(), p, n, k.as_mut_ptr(), k.len())
-            });
+            accepted(raw::s_words(&mut self.state, piece, &mut self.constant_columns));
         }
     }
 
     fn give_cells(&mut self, most: usize) {
-        let (s, c, v) = (&mut self.state, &mut self.copy_columns, &mut self.scratch);
+        let (state, copies, scratch) = (&mut self.state, &mut self.copy_columns, &mut self.scratch);
         for piece in self.cells.chunks(most) {
-            let (p, n) = (piece.as_ptr(), piece.len());
-            accepted(unsafe {
-                setup_cells(
-                    s.as_mut_ptr(),
-                    s.len(),
-                    p,
-                    n,
-                    c.as_mut_ptr(),
-                    c.len(),
-                    v.as_mut_ptr(),
-                    v.len(),
-                )
-            });
+            accepted(raw::cells(state, piece, copies, scratch));
         }
     }
 
     fn give_tables(&mut self, most: usize) {
-        let (s, t) = (&mut self.state, &mut self.table_columns);
-        let mut give = |piece: &[u64]| {
-            let (p, n) = (piece.as_ptr(), piece.len());
-            accepted(unsafe {
-                setup_tables(s.as_mut_ptr(), s.len(), p, n, t.as_mut_ptr(), t.len())
-            })
-        };
+        let mut give =
+            |piece: &[u64]| accepted(raw::tables(&mut self.state, piece, &mut self.table_columns));
         if most == usize::MAX {
             return give(&self.table_words);
         }
@@ -194,10 +89,7 @@ impl Lent {
     }
 
     fn finish(&mut self) {
-        let (s, c, v) = (&mut self.state, &mut self.copy_columns, &self.scratch);
-        accepted(unsafe {
-            setup_finish(s.as_mut_ptr(), s.len(), c.as_mut_ptr(), c.len(), v.as_ptr(), v.len())
-        });
+        accepted(raw::finish(&mut self.state, &mut self.copy_columns, &self.scratch));
     }
 
     /// Planning, opening, every section in pieces of at most so many records, finishing: the time
