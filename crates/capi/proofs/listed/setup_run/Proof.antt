@@ -1,13 +1,10 @@
--- `capi::listed::setup_run` meets its contract: the number is that of the listing's run.
+-- `listed::setup_run` meets its contract: the number is that of the listing's run.
 -- Assumes nothing.
 use mathlib.Core.Path.{ap}
 use Rattle.stage.specs.declared.circuit.Staged.{Staged}
 use borrow.Author.Needs.{needs}
 use Rattle.capi.proofs.listed.setup_run.Statement.{statement}
 use Rattle.capi.proofs.listed.setup_run.Tie as tie
-use Rattle.capi.proofs.listed.setup_run.Reads as reads
-use Rattle.capi.proofs.listed.setup_run.Lts as lts
-use Rattle.stage.proofs.listed.run_listing.Reads as run-listing-reads
 
 run-listing-requires : tie.Need-run-listing-requires
 run-listing-requires c κs = search needs

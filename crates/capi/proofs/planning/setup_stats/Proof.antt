@@ -2,7 +2,7 @@
 -- Assumes nothing.
 use Prim.Native.Nat.{ℕ}
 use borrow.Author.Needs.{needs}
-use mathlib.Core.Path.{_∙_, ap}
+use mathlib.Core.Path.{_∙_, _≡_, ap}
 use Rattle.tree.specs.Plan.{planFault}
 use Rattle.tree.specs.declared.plan.Plan.{Plan}
 use Rattle.capi.specs.Planning.{handLeft, handNumber, statsWords}
@@ -29,9 +29,10 @@ returns c =
     let out = c .before .before .before .before .before .before .before .before .before .args .out .now in
     let d = c .before .before .before .before .before .before .decode-plan in
     let f = c .before .before .before .before .before .fault .ensures in
-    let h = c .before .before .hand-unless .ensures in (
+    let h = c .before .before .hand-unless .ensures in
+    let l : _ ≡ handLeft (c .before .before .before .before .before .fault .result) (statsWords (d .result)) out = h .1 in (
       h .0 ∙ ap (λ (n : ℕ). handNumber n (statsWords (d .result)) out) f ∙ ap (λ (q : Plan). handNumber (planFault q) (statsWords q) out) (d .ensures),
-      h .1 ∙ ap (λ (n : ℕ). handLeft n (statsWords (d .result)) out) f ∙ ap (λ (q : Plan). handLeft (planFault q) (statsWords q) out) (d .ensures),
+      l ∙ ap (λ (n : ℕ). handLeft n (statsWords (d .result)) out) f ∙ ap (λ (q : Plan). handLeft (planFault q) (statsWords q) out) (d .ensures),
     )
 
 pub setup-stats-spec : {M : Type 1} → statement M

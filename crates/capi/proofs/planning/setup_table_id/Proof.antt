@@ -27,10 +27,12 @@ same-length c = search needs
 returns : tie.Need-returns
 returns c =
     let a = c .before .before .before .before .before .before .before .before .before .args in
-    let e : c .before .before .before .before .before .table-id .result ≡ tableIdAnswer (planOf (a .plan .now)) = c .before .before .before .before .before .table-id .ensures ∙ ap tableIdAnswer (c .before .before .before .before .before .before .decode-plan .ensures) in
-    let h = c .before .before .hand-unless .ensures in (
-      h .0 ∙ ap (λ (t : TableId). handNumber (t .number) (idWords t) (a .out .now)) e,
-      h .1 ∙ ap (λ (t : TableId). handLeft (t .number) (idWords t) (a .out .now)) e,
+    let t = c .before .before .before .before .before .table-id in
+    let e : t .result ≡ tableIdAnswer (planOf (a .plan .now)) = t .ensures ∙ ap tableIdAnswer (c .before .before .before .before .before .before .decode-plan .ensures) in
+    let h = c .before .before .hand-unless .ensures in
+    let l : _ ≡ handLeft (t .result .number) (idWords (t .result)) (a .out .now) = h .1 in (
+      h .0 ∙ ap (λ (x : TableId). handNumber (x .number) (idWords x) (a .out .now)) e,
+      l ∙ ap (λ (x : TableId). handLeft (x .number) (idWords x) (a .out .now)) e,
     )
 
 pub setup-table-id-spec : {M : Type 1} → statement M
