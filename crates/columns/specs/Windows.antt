@@ -23,6 +23,11 @@ unfoldable pub putWindow : ℕ → ℕ → ℕ → ℕ → List (List ℕ) → L
 putWindow low w N r [] b = b
 putWindow low w N r (l ∷ ls) b = putWindow low w N (suc r) ls (put N b (r + low * N) (padded w (drop low l)))
 
+-- two lines in the last two of three columns of two rows; the first column is kept
+example : putWindow 1 2 2 0 ((5 ∷ 6 ∷ 7 ∷ []) ∷ ((8 ∷ []) ∷ [])) (9 ∷ 9 ∷ 9 ∷ 9 ∷ 9 ∷ 9 ∷ []) ≡ 9 ∷ 9 ∷ 6 ∷ 0 ∷ 7 ∷ 0 ∷ []
+unfolding putWindow put padded
+example = refl
+
 -- ---- words of other places may be written before or after
 pub put-set : (d : ℕ) (b : List ℕ) (i : ℕ) (ws : List ℕ) (j y : ℕ) → ((c : ℕ) → c < length ws → j ≢ i + c * d) → put d (set b j y) i ws ≡ set (put d b i ws) j y
 unfolding put

@@ -119,37 +119,32 @@ beyond-requires-5 c κs = search needs
 sub-given : tie.Need-sub-given
 sub-given c =
     let a = c .before .before .before .before .before .before .before .before .before .before .before .args in
-    under (a .width - (a .width - c .before .before .before .before .before .before .before .beyond2 .result)) _ _ (c .beyond5 .ensures)
+    let d = a .width - c .before .before .before .before .before .before .before .beyond2 .result in
+    under (a .width - d) _ _ (c .beyond5 .ensures)
 
 mul-write-words : tie.Need-mul-write-words
 mul-write-words c =
-    let k = cut (c) in
+    let k = cut c in
     let s = c .before .before .before .before .before .before .before .before .before .before .before in
     let a = s .args in
-    fits-of _ 524288 (small-of (a .trace) (a .width - c .before .before .before .before .before .before .before .beyond2 .result) (a .width) (k .digits) (s .pre .2) (s .pre .0)) (omega arith)
+    let d = a .width - c .before .before .before .before .before .before .before .beyond2 .result in
+    fits-of _ 524288 (small-of (a .trace) d (a .width) (k .digits) (s .pre .2) (s .pre .0)) (omega arith)
 
 add-write-words : tie.Need-add-write-words
 add-write-words c =
-    let k = cut (c) in
+    let k = cut c in
     let s = c .before .before .before .before .before .before .before .before .before .before .before in
     let a = s .args in
-    let r = room-of (a .trace) (a .at) (a .width - c .before .before .before .before .before .before .before .beyond2 .result) (a .width) (length (a .constants .now)) (k .digits) (s .pre .3) in
+    let d = a .width - c .before .before .before .before .before .before .before .beyond2 .result in
+    let r = room-of (a .trace) (a .at) d (a .width) (length (a .constants .now)) (k .digits) (s .pre .3) in
     let z : length (a .constants .now) + a .trace ≤ 18446744073709551615 = omega (arith, s .pre .0) in
     fits-of _ (length (a .constants .now) + a .trace) (omega (arith, r)) z
 
 add-write-words-2 : tie.Need-add-write-words-2
-add-write-words-2 c =
-    let k = cut (c) in
-    let s = c .before .before .before .before .before .before .before .before .before .before .before in
-    let a = s .args in
-    omega (arith, k .given)
+add-write-words-2 c = omega (arith, cut c .given)
 
 mul-write-words-2 : tie.Need-mul-write-words-2
-mul-write-words-2 c =
-    let k = cut (c) in
-    let s = c .before .before .before .before .before .before .before .before .before .before .before in
-    let a = s .args in
-    omega (arith, k .given)
+mul-write-words-2 c = omega (arith, cut c .given)
 
 sub-write-words : tie.Need-sub-write-words
 sub-write-words c = search needs
@@ -158,26 +153,24 @@ part-write-words-start : tie.Need-part-write-words-start
 part-write-words-start c = search needs
 
 part-write-words-end : tie.Need-part-write-words-end
-part-write-words-end c =
-    let k = cut (c) in
-    let s = c .before .before .before .before .before .before .before .before .before .before .before in
-    let a = s .args in
-    omega (arith, k .given)
+part-write-words-end c = omega (arith, cut c .given)
 
 write-words-requires : tie.Need-write-words-requires
 write-words-requires c κs =
     let k = cut (c .before .before) in
     let s = c .before .before .before .before .before .before .before .before .before .before .before .before .before in
     let a = s .args in
-    let n = part-length (a .words .now) (length (a .words .now) - c .before .before .before .beyond4 .result) (a .width - (a .width - c .before .before .before .before .before .before .before .before .before .beyond2 .result) - c .before .before .beyond5 .result) (k .given) in
-    let r = room-of (a .trace) (a .at) ((a .width - c .before .before .before .before .before .before .before .before .before .beyond2 .result) + (a .width - (a .width - c .before .before .before .before .before .before .before .before .before .beyond2 .result) - c .before .before .beyond5 .result)) (a .width) (length (a .constants .now)) (k .filled) (s .pre .3) in
-    (s .pre .0, two-of (a .trace) (a .at) (a .width - c .before .before .before .before .before .before .before .before .before .beyond2 .result) (a .width - (a .width - c .before .before .before .before .before .before .before .before .before .beyond2 .result) - c .before .before .beyond5 .result) _ _ _ n (c .before .before .before .before .before .before .before .write-path .kept .1 .1 .1 .1 .0) r)
+    let d = a .width - c .before .before .before .before .before .before .before .before .before .beyond2 .result in
+    let f = length (a .words .now) - c .before .before .before .beyond4 .result in
+    let g = a .width - d - c .before .before .beyond5 .result in
+    let n = part-length (a .words .now) f g (k .given) in
+    let r = room-of (a .trace) (a .at) (d + g) (a .width) (length (a .constants .now)) (k .filled) (s .pre .3) in
+    (s .pre .0, two-of (a .trace) (a .at) d g _ _ _ n (c .before .before .before .before .before .before .before .write-path .kept .1 .1 .1 .1 .0) r)
 
 add-filled : tie.Need-add-filled
 add-filled c =
     let k = cut (c .before .before .before .before .before) in
     let s = c .before .before .before .before .before .before .before .before .before .before .before .before .before .before .before .before in
-    let a = s .args in
     fits-of _ 8 (omega (arith, k .filled, s .pre .2)) (omega arith)
 
 mul-write-zeros : tie.Need-mul-write-zeros
@@ -185,30 +178,32 @@ mul-write-zeros c =
     let k = cut (c .before .before .before .before .before) in
     let s = c .before .before .before .before .before .before .before .before .before .before .before .before .before .before .before .before in
     let a = s .args in
-    fits-of _ 524288 (small-of (a .trace) ((a .width - c .before .before .before .before .before .before .before .before .before .before .before .before .beyond2 .result) + (a .width - (a .width - c .before .before .before .before .before .before .before .before .before .before .before .before .beyond2 .result) - c .before .before .before .before .before .beyond5 .result)) (a .width) (k .filled) (s .pre .2) (s .pre .0)) (omega arith)
+    let d = a .width - c .before .before .before .before .before .before .before .before .before .before .before .before .beyond2 .result in
+    let g = a .width - d - c .before .before .before .before .before .beyond5 .result in
+    omega (arith, small-of (a .trace) (d + g) (a .width) (k .filled) (s .pre .2) (s .pre .0))
 
 add-write-zeros : tie.Need-add-write-zeros
 add-write-zeros c =
     let k = cut (c .before .before .before .before .before) in
     let s = c .before .before .before .before .before .before .before .before .before .before .before .before .before .before .before .before in
     let a = s .args in
-    let r = room-of (a .trace) (a .at) ((a .width - c .before .before .before .before .before .before .before .before .before .before .before .before .beyond2 .result) + (a .width - (a .width - c .before .before .before .before .before .before .before .before .before .before .before .before .beyond2 .result) - c .before .before .before .before .before .beyond5 .result)) (a .width) (length (a .constants .now)) (k .filled) (s .pre .3) in
-    let z : length (a .constants .now) + a .trace ≤ 18446744073709551615 = omega (arith, s .pre .0) in
-    fits-of _ (length (a .constants .now) + a .trace) (omega (arith, r)) z
+    let d = a .width - c .before .before .before .before .before .before .before .before .before .before .before .before .beyond2 .result in
+    let g = a .width - d - c .before .before .before .before .before .beyond5 .result in
+    let r = room-of (a .trace) (a .at) (d + g) (a .width) (length (a .constants .now)) (k .filled) (s .pre .3) in
+    omega (arith, r, s .pre .0)
 
 sub-write-zeros : tie.Need-sub-write-zeros
-sub-write-zeros c =
-    let k = cut (c .before .before .before .before .before) in
-    let s = c .before .before .before .before .before .before .before .before .before .before .before .before .before .before .before .before in
-    let a = s .args in
-    k .filled
+sub-write-zeros c = search needs
 
 write-zeros-requires : tie.Need-write-zeros-requires
 write-zeros-requires c κs =
     let k = cut (c .before .before .before .before .before .before) in
     let s = c .before .before .before .before .before .before .before .before .before .before .before .before .before .before .before .before .before in
     let a = s .args in
-    (s .pre .0, rest-small (a .width) ((a .width - c .before .before .before .before .before .before .before .before .before .before .before .before .before .beyond2 .result) + (a .width - (a .width - c .before .before .before .before .before .before .before .before .before .before .before .before .before .beyond2 .result) - c .before .before .before .before .before .before .beyond5 .result)) (s .pre .2), rest-of (a .trace) (a .at) ((a .width - c .before .before .before .before .before .before .before .before .before .before .before .before .before .beyond2 .result) + (a .width - (a .width - c .before .before .before .before .before .before .before .before .before .before .before .before .before .beyond2 .result) - c .before .before .before .before .before .before .beyond5 .result)) (a .width) _ _ (k .filled) (c .before .before .before .write-words .kept .1 .1 .1 .0 ∙ c .before .before .before .before .before .before .before .before .before .before .before .write-path .kept .1 .1 .1 .1 .0) (s .pre .3))
+    let d = a .width - c .before .before .before .before .before .before .before .before .before .before .before .before .before .beyond2 .result in
+    let g = a .width - d - c .before .before .before .before .before .before .beyond5 .result in
+    let r = rest-of (a .trace) (a .at) (d + g) (a .width) _ _ (k .filled) (c .before .before .before .write-words .kept .1 .1 .1 .0 ∙ c .before .before .before .before .before .before .before .before .before .before .before .write-path .kept .1 .1 .1 .1 .0) (s .pre .3) in
+    (s .pre .0, rest-small (a .width) (d + g) (s .pre .2), omega (arith, r))
 
 -- the three parts make up the line
 line-by : (low w N i : ℕ) (b₀ b₁ b₂ b₃ path words : List ℕ) (bits steps a f b : ℕ) → Spelled path bits steps → Cut low w steps (length words) a f b
@@ -231,8 +226,11 @@ returns c =
     let k = cut (c .before .before .before .before .before .before .before .before .before) in
     let s = c .before .before .before .before .before .before .before .before .before .before .before .before .before .before .before .before .before .before .before .before in
     let a = s .args in
+    let d = a .width - c .before .before .before .before .before .before .before .before .before .before .before .before .before .before .before .before .beyond2 .result in
+    let f = length (a .words .now) - c .before .before .before .before .before .before .before .before .before .before .beyond4 .result in
+    let g = a .width - d - c .before .before .before .before .before .before .before .before .before .beyond5 .result in
     λ path w.
-    line-by (a .low) (a .width) (a .trace) (a .at) (a .constants .now) _ _ _ path (a .words .now) (a .bits) (a .steps) (a .width - c .before .before .before .before .before .before .before .before .before .before .before .before .before .before .before .before .beyond2 .result) (length (a .words .now) - c .before .before .before .before .before .before .before .before .before .before .beyond4 .result) (a .width - (a .width - c .before .before .before .before .before .before .before .before .before .before .before .before .before .before .before .before .beyond2 .result) - c .before .before .before .before .before .before .before .before .before .beyond5 .result) w k
+    line-by (a .low) (a .width) (a .trace) (a .at) (a .constants .now) _ _ _ path (a .words .now) (a .bits) (a .steps) d f g w k
     (c .before .before .before .before .before .before .before .before .before .before .before .before .before .before .write-path .ensures) (c .before .before .before .before .before .before .write-words .ensures) (c .before .before .write-zeros .ensures)
 
 pub write-part-spec : {M : Type 1} → statement M
