@@ -2,13 +2,15 @@
 ghost use mathlib.Core.Path.{_≡_};
 ghost use mathlib.Core.List.{List, _++_};
 ghost use Prim.Native.Nat.{ℕ, _+_, _*_, _<_, _≤_};
-ghost use lib.ListN.{length, getD};
+ghost use lib.ListN.{length, getD, drop};
 ghost use Rattle.pieces.specs.Records.{rowSize, front, rowsOf};
 ghost use Rattle.pieces.specs.Writing.{put, padded, putLines};
 ghost use Rattle.pieces.specs.Rows.{rowFault, rowsFault, rowLines, marked};
 ghost use Rattle.columns.specs.Digits.{Spelled};
-ghost use Rattle.columns.specs.Placed.{Spells, Fits, Faultless};
+ghost use Rattle.columns.specs.Placed.{Spells, Fits, Faultless, FaultlessIn};
+ghost use Rattle.columns.specs.Windows.{putWindow};
 use crate::records::all_below;
+use crate::records::beyond;
 use crate::records::write_path;
 use crate::records::write_words;
 use crate::records::write_zeros;
@@ -62,27 +64,38 @@ pub(crate) fn rows_fault(many: u64, own: &[u64; 128], trace: u64, count: u64, pi
     0
 }
 
-// One row: the path's digits, the constants, then zeros, `height` words in all.
-fn write_row(
-    height: u64,
+// One row's words in the `width` columns from column `low` on, the first of them at place `at`: the
+// path's digits, the constants, then zeros, as far as they fall into these columns.
+fn write_part(
+    low: u64,
+    width: u64,
     trace: usize,
-    row: usize,
+    at: usize,
     bits: u64,
     steps: u64,
     words: &[u64],
     constants: &mut [u64],
 )
-    requires { ⌜ (trace ≤ 65536) × (height ≤ 64) × (steps ≤ 32) × (steps + length (now words) ≤ height) ⌝ }
-    requires { ⌜ (row < trace) × (height * trace ≤ length (now constants)) ⌝ }
-    ensures { λ _. ⌜ ((path : List ℕ) → Spelled path bits steps → now (constants .exit) ≡ put trace (now (constants .entry)) row (padded height (path ++ now (words .entry)))) ⌝ }
+    requires { ⌜ (trace ≤ 65536) × (low < 64) × (width ≤ 8) × (at + width * trace < length (now constants) + trace) ⌝ }
+    ensures { λ _. ⌜ ((path : List ℕ) → Spelled path bits steps → now (constants .exit) ≡ put trace (now (constants .entry)) at (padded width (drop low (path ++ now (words .entry))))) ⌝ }
 {
-    let filled = steps + words.len() as u64;
-    write_path(trace, row, bits, steps, constants);
-    write_words(trace, row + steps as usize * trace, words, constants);
+    let digits = width - beyond(width, beyond(steps, low));
+    write_path(trace, at, bits >> low, digits, constants);
+    let many = words.len() as u64;
+    let start = many - beyond(many, beyond(low, steps));
+    let room = width - digits;
+    let given = room - beyond(room, many - start);
+    write_words(
+        trace,
+        at + digits as usize * trace,
+        &words[start as usize..(start + given) as usize],
+        constants,
+    );
+    let filled = digits + given;
     write_zeros(
         trace,
-        row + filled as usize * trace,
-        height - filled,
+        at + filled as usize * trace,
+        width - filled,
         constants,
     );
 }
@@ -112,7 +125,47 @@ pub(crate) fn mark_rows(count: u64, piece: &[u64], used: &mut [u64; 128]) -> u64
     row
 }
 
-// The records of a piece without a fault, in the rows from `count` on.
+// The records of a piece without a fault, in the rows from `count` on: their words in the `width`
+// columns from column `low` on.
+fn write_window(
+    low: u64,
+    width: u64,
+    trace: u64,
+    count: u64,
+    bits: &[u64; 128],
+    steps: &[u64; 128],
+    piece: &[u64],
+    constants: &mut [u64],
+)
+    requires { ⌜ (trace ≤ 65536) × (low < 64) × (width ≤ 8) × ((low + width) * trace ≤ length (now constants)) ⌝ }
+    requires { ⌜ FaultlessIn trace count (now piece) ⌝ }
+    ensures { λ _. ⌜ ((many : ℕ) (own : ℕ → ℕ) (path : ℕ → List ℕ) → rowsFault many own trace count (rowsOf (now (piece .entry))) ≡ 0 → Spells many path (now (bits .entry)) (now (steps .entry)) → now (constants .exit) ≡ putWindow low width trace count (rowLines path (rowsOf (now (piece .entry)))) (now (constants .entry))) ⌝ }
+{
+    let base = low as usize * trace as usize;
+    let mut row = count;
+    let mut i = 0;
+    while i < piece.len() {
+        let g = piece[i] as usize;
+        let start = i + 2;
+        let end = start + piece[i + 1] as usize;
+        write_part(
+            low,
+            width,
+            trace as usize,
+            row as usize + base,
+            bits[g],
+            steps[g],
+            &piece[start..end],
+            constants,
+        );
+        row = row + 1;
+        i = end;
+    }
+}
+
+// The records of a piece without a fault, in the rows from `count` on. The columns lie a power of
+// two apart, so that the words of a row share one set of the cache: they are written eight columns
+// at a time.
 pub(crate) fn write_rows(
     height: u64,
     trace: u64,
@@ -128,22 +181,10 @@ pub(crate) fn write_rows(
 {
     let bits = gates.bits;
     let steps = gates.steps;
-    let mut row = count;
-    let mut i = 0;
-    while i < piece.len() {
-        let g = piece[i] as usize;
-        let start = i + 2;
-        let end = start + piece[i + 1] as usize;
-        write_row(
-            height,
-            trace as usize,
-            row as usize,
-            bits[g],
-            steps[g],
-            &piece[start..end],
-            constants,
-        );
-        row = row + 1;
-        i = end;
+    let mut low = 0;
+    while low < height {
+        let width = 8 - beyond(8, height - low);
+        write_window(low, width, trace, count, &bits, &steps, piece, constants);
+        low = low + width;
     }
 }
