@@ -47,6 +47,23 @@ impl Circuit {
         }
     }
 
+    /// A lone gate of kind 1 in every row, all cells placeholders.
+    pub fn nop(n: u64, c: u64, v: u64) -> Circuit {
+        Circuit::plain([n, c, 0, 0, v, 0, 0, 0], &[[1, 0, 0]])
+    }
+
+    /// "P8 the listing."
+    pub fn worked() -> Circuit {
+        Circuit {
+            parameters: [2, 2, 1, 0, 2, 0, 0, 0],
+            gates: vec![[0, 2, 1], [1, 0, 0]],
+            rows: vec![vec![0, 1, 5], vec![1, 0]],
+            s_words: vec![],
+            cells: vec![0, 1, 1, PLACEHOLDER],
+            tables: vec![],
+        }
+    }
+
     /// As document 01 writes listings: words parted by spaces, records by commas,
     /// sections by semicolons; placeholders and long runs shortened.
     pub fn written(&self) -> String {

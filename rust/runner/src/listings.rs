@@ -13,30 +13,14 @@ pub fn bytes(words: &[u64]) -> Vec<u8> {
     words.iter().flat_map(|word| word.to_le_bytes()).collect()
 }
 
-fn nop(n: u64, c: u64, v: u64) -> Circuit {
-    Circuit::plain([n, c, 0, 0, v, 0, 0, 0], &[[1, 0, 0]])
-}
-
 fn with(mut circuit: Circuit, change: &dyn Fn(&mut Circuit)) -> Circuit {
     change(&mut circuit);
     circuit
 }
 
-/// "P8 the listing."
-fn worked() -> Circuit {
-    Circuit {
-        parameters: [2, 2, 1, 0, 2, 0, 0, 0],
-        gates: vec![[0, 2, 1], [1, 0, 0]],
-        rows: vec![vec![0, 1, 5], vec![1, 0]],
-        s_words: vec![],
-        cells: vec![0, 1, 1, PLACEHOLDER],
-        tables: vec![],
-    }
-}
-
 /// Every reason of 20, and the longest input that is no such reason.
 fn malformed() -> Vec<Vec<u8>> {
-    let good = nop(1, 1, 0).listing();
+    let good = Circuit::nop(1, 1, 0).listing();
     let before_tables = &good[..good.len() - 1];
     let mut all: Vec<Vec<u64>> = (0..good.len()).map(|length| good[..length].to_vec()).collect();
     all.push([&good[..], &[0]].concat());
@@ -48,7 +32,7 @@ fn malformed() -> Vec<Vec<u8>> {
         all.push([before_tables, &[1, width, rows]].concat());
     }
     for cells in [8173, 8174] {
-        all.push(with(nop(1, 1, 0), &|x| x.cells = vec![0; cells]).listing());
+        all.push(with(Circuit::nop(1, 1, 0), &|x| x.cells = vec![0; cells]).listing());
     }
     let mut inputs: Vec<Vec<u8>> = all.iter().map(|words| bytes(words)).collect();
     inputs.extend([1, 7].map(|odd| [bytes(&good), vec![0; odd]].concat()));
@@ -69,7 +53,7 @@ fn two_faults() -> Vec<Circuit> {
     let mut all = vec![];
     for (i, first) in faults.iter().enumerate() {
         for second in &faults[i..] {
-            all.push(with(with(nop(1, 1, 1), first), second));
+            all.push(with(with(Circuit::nop(1, 1, 1), first), second));
         }
     }
     all
@@ -81,7 +65,7 @@ fn ends() -> Vec<Circuit> {
         x.rows.clear();
         x.cells.clear();
     };
-    let index = |v: u64| with(nop(1, 1, 4096), &|x: &mut Circuit| x.cells = vec![v]);
+    let index = |v: u64| with(Circuit::nop(1, 1, 4096), &|x: &mut Circuit| x.cells = vec![v]);
     let two = Circuit::plain([2, 1, 0, 0, 0, 0, 0, 0], &[[0, 2, 0], [1, 0, 0]]);
     let value = |w: u64| {
         with(Circuit::plain([1, 1, 1, 1, 0, 0, 0, 0], &[[0, 1, 1]]), &|x| {
@@ -90,11 +74,11 @@ fn ends() -> Vec<Circuit> {
         })
     };
     vec![
-        nop(1, 1, 0),
-        with(nop(65536, 1, 0), &tall),
-        with(nop(131072, 1, 0), &tall),
-        nop(1, 1, 4096),
-        nop(1, 1, 4097),
+        Circuit::nop(1, 1, 0),
+        with(Circuit::nop(65536, 1, 0), &tall),
+        with(Circuit::nop(131072, 1, 0), &tall),
+        Circuit::nop(1, 1, 4096),
+        Circuit::nop(1, 1, 4097),
         index(4095),
         index(4096),
         index(4095 | 1 << 62),
@@ -122,7 +106,7 @@ fn accepted(r: &mut Random, mode: u64, most: usize) -> Circuit {
 /// The inputs of the recording.
 pub fn recorded(seed: u64) -> Vec<Vec<u8>> {
     let mut r = Random::new(seed);
-    let mut circuits = vec![worked()];
+    let mut circuits = vec![Circuit::worked()];
     circuits.extend(ends());
     circuits.extend(two_faults());
     circuits.extend(differences::cases().into_iter().map(|case| case.circuit));

@@ -1,5 +1,5 @@
 use super::Checks;
-use crate::circuit::{Circuit, PLACEHOLDER};
+use crate::circuit::Circuit;
 use model::field::P;
 
 fn bytes(words: &[u64]) -> Vec<u8> {
@@ -10,24 +10,12 @@ fn printed(circuit: &Circuit) -> String {
     model::program(&bytes(&circuit.listing()))
 }
 
-fn nop(n: u64, c: u64, v: u64) -> Circuit {
-    Circuit::plain([n, c, 0, 0, v, 0, 0, 0], &[[1, 0, 0]])
-}
-
 pub fn worked(c: &mut Checks) {
-    let p8 = Circuit {
-        parameters: [2, 2, 1, 0, 2, 0, 0, 0],
-        gates: vec![[0, 2, 1], [1, 0, 0]],
-        rows: vec![vec![0, 1, 5], vec![1, 0]],
-        s_words: vec![],
-        cells: vec![0, 1, 1, PLACEHOLDER],
-        tables: vec![],
-    };
     let wanted = "plan 3 2 2\npath 0 1\npath 1 0\nconstant 0 1 0\nconstant 1 5 0\ncopy 0 1 7\n\
         copy 1 18446744069414584320 18446744069414584314\nids\n";
-    c.same("P8", printed(&p8), wanted.to_string());
+    c.same("P8", printed(&Circuit::worked()), wanted.to_string());
     let empty = "plan 0 0 1\npath 0\ncopy 0 1\nids\n";
-    c.same("an empty path, no constant column", printed(&nop(1, 1, 0)), empty.to_string());
+    c.same("an empty path, no constant column", printed(&Circuit::nop(1, 1, 0)), empty.to_string());
     let mut lookup = Circuit::plain([2, 1, 1, 0, 0, 2, 1, 1], &[[3, 0, 0], [0, 1, 0]]);
     let wanted = "plan 2 2 1\npath 0 0\npath 1 1\nconstant 0 0 1\nconstant 1 0 0\n\
         copy 0 1 18446744069414584320\ntable 0 0 0\ntable 1 0 0\nids 1\n";
@@ -42,7 +30,7 @@ fn refused(number: u64) -> String {
 }
 
 pub fn malformed(c: &mut Checks) {
-    let good = nop(1, 1, 0).listing();
+    let good = Circuit::nop(1, 1, 0).listing();
     let mut check = |name: &str, words: &[u64], number: u64| {
         c.same(name, model::program(&bytes(words)), refused(number))
     };
@@ -74,16 +62,20 @@ fn with(mut circuit: Circuit, change: &dyn Fn(&mut Circuit)) -> String {
 }
 
 pub fn sizes(c: &mut Checks) {
-    c.same("65,536 bytes", with(nop(1, 1, 0), &|x| x.cells = vec![0; 8173]), refused(14));
-    c.same("65,544 bytes", with(nop(1, 1, 0), &|x| x.cells = vec![0; 8174]), refused(20));
+    c.same("65,536 bytes", with(Circuit::nop(1, 1, 0), &|x| x.cells = vec![0; 8173]), refused(14));
+    c.same("65,544 bytes", with(Circuit::nop(1, 1, 0), &|x| x.cells = vec![0; 8174]), refused(20));
     let tall = |x: &mut Circuit| {
         x.rows.clear();
         x.cells.clear();
     };
-    c.same("N = 65,536 does not fit the program", with(nop(65536, 1, 0), &tall), refused(10));
-    c.same("N = 131,072", with(nop(131072, 1, 0), &tall), refused(1));
-    c.same("V = 4,097", printed(&nop(1, 1, 4097)), refused(10));
-    c.same("V = 4,096", printed(&nop(1, 1, 4096)).starts_with("plan"), true);
+    c.same(
+        "N = 65,536 does not fit the program",
+        with(Circuit::nop(65536, 1, 0), &tall),
+        refused(10),
+    );
+    c.same("N = 131,072", with(Circuit::nop(131072, 1, 0), &tall), refused(1));
+    c.same("V = 4,097", printed(&Circuit::nop(1, 1, 4097)), refused(10));
+    c.same("V = 4,096", printed(&Circuit::nop(1, 1, 4096)).starts_with("plan"), true);
 }
 
 pub fn order(c: &mut Checks) {
@@ -102,16 +94,20 @@ pub fn order(c: &mut Checks) {
                 first.1(x);
                 second.1(x);
             };
-            c.same("the earlier section's fault", with(nop(1, 1, 1), &both), refused(first.0));
+            c.same(
+                "the earlier section's fault",
+                with(Circuit::nop(1, 1, 1), &both),
+                refused(first.0),
+            );
         }
     }
     let incomplete = |x: &mut Circuit| {
         x.cells.clear();
         x.tables = vec![vec![0, 0]];
     };
-    c.same("16 waits for tables", with(nop(1, 1, 0), &incomplete), refused(15));
-    c.same("cells missing", with(nop(1, 1, 0), &|x| x.cells.clear()), refused(16));
-    c.same("16 before 17", with(nop(1, 1, 0), &|x| x.rows.clear()), refused(16));
+    c.same("16 waits for tables", with(Circuit::nop(1, 1, 0), &incomplete), refused(15));
+    c.same("cells missing", with(Circuit::nop(1, 1, 0), &|x| x.cells.clear()), refused(16));
+    c.same("16 before 17", with(Circuit::nop(1, 1, 0), &|x| x.rows.clear()), refused(16));
     let two = Circuit::plain([1, 1, 0, 0, 0, 0, 0, 0], &[[0, 1, 0], [2, 0, 0]]);
     c.same("a kind 2 gate in no row", printed(&two), refused(17));
 }
