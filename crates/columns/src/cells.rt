@@ -1,5 +1,6 @@
 // Cell words: the copy columns and the scratch words grow together.
 ghost use mathlib.Core.Path.{_≡_};
+ghost use mathlib.Core.Bool.{true};
 ghost use Prim.Native.Nat.{ℕ, _+_, _*_, _<_, _≤_};
 ghost use lib.ListN.{length, getD};
 ghost use Rattle.pieces.specs.Setting.{cols};
@@ -22,8 +23,8 @@ fn cell_fault(total: u64, vars: u64, cell: u64, variable: Variable) -> u64
     0
 }
 
-// The number of the first faulty word of a piece.
-pub(crate) fn cells_fault(total: u64, vars: u64, count: u64, piece: &[u64]) -> u64
+// The number of the first faulty word of a piece, found word by word.
+fn first_fault(total: u64, vars: u64, count: u64, piece: &[u64]) -> u64
     requires { ⌜ (count ≤ total) × (total ≤ 4294967296) ⌝ }
     ensures { λ r. ⌜ r ≡ cellsFault total vars count (now (piece .entry)) ⌝ }
 {
@@ -38,6 +39,44 @@ pub(crate) fn cells_fault(total: u64, vars: u64, count: u64, piece: &[u64]) -> u
         i = i + 1;
     }
     0
+}
+
+// 1 for a placeholder and for the index of a variable, else 0, without a branch: the borrow of the
+// index less a bound, which for a placeholder is past any index.
+fn is_named(vars: u64, word: u64) -> u64
+    requires { ⌜ vars ≤ 4294967296 ⌝ }
+    ensures { λ r. ⌜ (r ≤ 1) × (r ≡ 1 → word < placeholder → indexOf word < vars) ⌝ }
+{
+    let bound = vars + (word >> 63) * 281474976710656;
+    std::num::wrapping_sub_u64(Variable(word).as_variable_index(), bound) >> 63
+}
+
+// Whether every word is a placeholder or the index of a variable, so that none is faulty in a cell of
+// the section. The loop runs to its end and has no branch: the compiler takes several words at a time.
+fn all_named(vars: u64, piece: &[u64]) -> bool
+    requires { ⌜ vars ≤ 4294967296 ⌝ }
+    ensures { λ r. ⌜ (r ≡ true → (total k : ℕ) → k + length (now (piece .entry)) ≤ total → cellsFault total vars k (now (piece .entry)) ≡ 0) ⌝ }
+{
+    let mut named: u64 = 0;
+    let mut i = 0;
+    while i < piece.len() {
+        named = named + is_named(vars, piece[i]);
+        i = i + 1;
+    }
+    named == piece.len() as u64
+}
+
+// The number of the first faulty word of a piece.
+pub(crate) fn cells_fault(total: u64, vars: u64, count: u64, piece: &[u64]) -> u64
+    requires { ⌜ (count ≤ total) × (total ≤ 4294967296) × (vars ≤ 4294967296) ⌝ }
+    ensures { λ r. ⌜ r ≡ cellsFault total vars count (now (piece .entry)) ⌝ }
+{
+    if piece.len() as u64 <= total - count {
+        if all_named(vars, piece) {
+            return 0;
+        }
+    }
+    first_fault(total, vars, count, piece)
 }
 
 // One cell word: a placeholder changes nothing, an unseen variable stores the cell's word and

@@ -21,7 +21,8 @@ pub(crate) fn all_used(many: u64, used: &[u64; 128]) -> bool
     true
 }
 
-// Whether a variable's value is below p and, where it is seen, its first cell one of `cells`.
+// Whether a variable's value is below p and, where it is seen, its first cell one of `cells`. The
+// cell is asked first: which variables are seen cannot be foretold, that their cells are fine can.
 fn variable_fine(cells: u64, v: u64, scratch: &[u64]) -> bool
     requires { ⌜ (v < 4294967296) × (2 * v + 1 < length (now scratch)) ⌝ }
     ensures { λ r. ⌜ r ≡ variableFine cells (now (scratch .entry)) v ⌝ }
@@ -31,10 +32,10 @@ fn variable_fine(cells: u64, v: u64, scratch: &[u64]) -> bool
     if field::P <= value {
         return false;
     }
-    if value == 0 {
+    if scratch[at + 1] < cells {
         return true;
     }
-    scratch[at + 1] < cells
+    value == 0
 }
 
 // The same for all variables.
