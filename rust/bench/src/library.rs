@@ -95,16 +95,15 @@ impl Lent {
     /// Planning, opening, every section in pieces of at most so many records, finishing: the time
     /// of each step.
     pub fn whole(&mut self, most: usize) -> Steps {
-        let mut plan = vec![];
-        let planning = timed(|| plan = self.plan());
+        let (plan, planning) = timed(|| self.plan());
         Steps {
             planning,
-            opening: timed(|| self.open(&plan)),
-            rows: timed(|| self.give_rows(most)),
-            s_words: timed(|| self.give_s_words(most)),
-            cells: timed(|| self.give_cells(most)),
-            tables: timed(|| self.give_tables(most)),
-            finishing: timed(|| self.finish()),
+            opening: timed(|| self.open(&plan)).1,
+            rows: timed(|| self.give_rows(most)).1,
+            s_words: timed(|| self.give_s_words(most)).1,
+            cells: timed(|| self.give_cells(most)).1,
+            tables: timed(|| self.give_tables(most)).1,
+            finishing: timed(|| self.finish()).1,
         }
     }
 }
@@ -112,31 +111,29 @@ impl Lent {
 /// How long each step took.
 #[derive(Clone, Copy)]
 pub struct Steps {
-    pub planning: Duration,
-    pub opening: Duration,
-    pub rows: Duration,
-    pub s_words: Duration,
-    pub cells: Duration,
-    pub tables: Duration,
-    pub finishing: Duration,
+    planning: Duration,
+    opening: Duration,
+    rows: Duration,
+    s_words: Duration,
+    cells: Duration,
+    tables: Duration,
+    finishing: Duration,
 }
+
+pub const PARTS: [&str; 5] =
+    ["planning", "labels and opening", "rows and S words", "cells and finishing", "tables"];
 
 impl Steps {
-    pub fn constants(self) -> Duration {
-        self.planning + self.rows + self.s_words
-    }
-
-    pub fn copies(self) -> Duration {
-        self.opening + self.cells + self.finishing
-    }
-
-    pub fn whole(self) -> Duration {
-        self.constants() + self.copies() + self.tables
+    /// The parts that are set beside the original's.
+    pub fn parts(self) -> [Duration; PARTS.len()] {
+        let (rows, cells) = (self.rows + self.s_words, self.cells + self.finishing);
+        [self.planning, self.opening, rows, cells, self.tables]
     }
 }
 
-pub fn timed(run: impl FnOnce()) -> Duration {
+/// What a run made, and how long it took.
+pub fn timed<T>(run: impl FnOnce() -> T) -> (T, Duration) {
     let start = Instant::now();
-    run();
-    start.elapsed()
+    let made = run();
+    (made, start.elapsed())
 }

@@ -1,12 +1,13 @@
 //! The proved library beside the original's create_base_setup: one process, one thread, the same
-//! circuits, rounds in turn, minima and medians in milliseconds.
+//! circuits, rounds in turn, minima and medians in milliseconds. The ratio is of the minima.
 //!
 //!   bench [ROUNDS]      15 if not given
 mod circuits;
 mod library;
 
 use circuits::{Cells, Shape};
-use library::{timed, Lent};
+use library::{timed, Lent, PARTS};
+use oracle::clock::{Part as OfOriginal, Spent};
 use std::time::Duration;
 
 #[derive(Default)]
@@ -32,6 +33,11 @@ struct Part {
 }
 
 impl Part {
+    fn push(&mut self, ours: Duration, theirs: Duration) {
+        self.ours.0.push(ours);
+        self.theirs.0.push(theirs);
+    }
+
     fn print(&self, name: &str, part: &str) {
         let (ours, theirs) = (&self.ours, &self.theirs);
         println!(
@@ -45,30 +51,41 @@ impl Part {
     }
 }
 
-/// One circuit in one piece a section, whole and by part.
+/// The original's time for each of our parts: its columns are allocated as zeros where ours are
+/// opened.
+fn original_parts(spent: Spent) -> [Duration; 5] {
+    let of = |part: OfOriginal| spent[part as usize];
+    [
+        of(OfOriginal::Planning),
+        of(OfOriginal::Allocating) + of(OfOriginal::Labels),
+        of(OfOriginal::Rows),
+        of(OfOriginal::Cells),
+        of(OfOriginal::Tables),
+    ]
+}
+
+/// One circuit in one piece a section, whole and by part. Dropping what the original made is not in
+/// its time.
 fn compare(shape: Shape, rounds: usize) {
     let circuit = circuits::make(shape);
     let original = oracle::prepare(&circuit.listing()).expect("a listing");
     let mut lent = Lent::new(&circuit);
-    let names = ["planning, rows, S words", "opening, cells, finishing", "tables", "whole"];
-    let mut parts: [Part; 4] = Default::default();
+    let mut parts: [Part; PARTS.len()] = Default::default();
+    let mut whole = Part::default();
     for _ in 0..rounds {
-        let steps = lent.whole(usize::MAX);
-        let ours = [steps.constants(), steps.copies(), steps.tables, steps.whole()];
-        let theirs = [
-            timed(|| drop(original.constants())),
-            timed(|| drop(original.copies())),
-            timed(|| drop(original.tables())),
-            timed(|| drop(original.whole())),
-        ];
+        let ours = lent.whole(usize::MAX).parts();
+        let (made, spent) = original.whole();
+        drop(made);
+        let theirs = original_parts(spent);
         for (i, part) in parts.iter_mut().enumerate() {
-            part.ours.0.push(ours[i]);
-            part.theirs.0.push(theirs[i]);
+            part.push(ours[i], theirs[i]);
         }
+        whole.push(ours.iter().sum(), theirs.iter().sum());
     }
-    for (part, name) in parts.iter().zip(names) {
+    for (part, name) in parts.iter().zip(PARTS) {
         part.print(&shape.name(), name);
     }
+    whole.print(&shape.name(), "whole");
 }
 
 /// Planning alone.
@@ -79,8 +96,9 @@ fn planning(rounds: usize) {
         let lent = Lent::new(&circuit);
         let mut part = Part::default();
         for _ in 0..rounds {
-            part.theirs.0.push(timed(|| drop(original.planning())));
-            part.ours.0.push(timed(|| drop(lent.plan())));
+            let (_, theirs) = timed(|| original.planning());
+            let (_, ours) = timed(|| lent.plan());
+            part.push(ours, theirs);
         }
         part.print(name, "planning");
     }
@@ -93,7 +111,7 @@ fn pieces(shape: Shape, rounds: usize) {
     for most in [usize::MAX, 1024, 1] {
         let mut times = Times::default();
         for _ in 0..if most == 1 { 3 } else { rounds } {
-            times.0.push(lent.whole(most).whole());
+            times.0.push(lent.whole(most).parts().iter().sum());
         }
         let size = if most == usize::MAX { "all".to_string() } else { most.to_string() };
         println!("| {} | {size} | {:.3} | {:.3} |", shape.name(), times.least(), times.median());

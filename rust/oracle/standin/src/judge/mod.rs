@@ -2,6 +2,7 @@
 //! structures, the upstream setup runs, and its answer is handed back as words.
 mod answer;
 mod assembly;
+pub mod clock;
 mod listing;
 mod parts;
 

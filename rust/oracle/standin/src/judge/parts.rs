@@ -1,6 +1,7 @@
 //! The upstream setup, whole and by part, on a circuit that is already in the upstream
 //! structures: for timing. What a part makes is handed to the caller, who drops it.
 use super::assembly::{self, Assembly};
+use super::clock::{self, Spent};
 use super::Listing;
 use crate::worker::Worker;
 use std::any::Any;
@@ -18,28 +19,14 @@ pub fn prepare(words: &[u64]) -> Option<Prepared> {
 }
 
 impl Prepared {
-    /// create_base_setup.
-    pub fn whole(&self) -> Box<dyn Any> {
-        Box::new(self.assembly.create_base_setup(&self.worker, &mut ()))
+    /// create_base_setup, and the time of each of its parts.
+    pub fn whole(&self) -> (Box<dyn Any>, Spent) {
+        let (made, spent) = clock::timed(|| self.assembly.create_base_setup(&self.worker, &mut ()));
+        (Box::new(made), spent)
     }
 
     /// The search for a tree.
     pub fn planning(&self) -> Box<dyn Any> {
         Box::new(self.assembly.compute_selectors_and_constants_placement())
-    }
-
-    /// The constant columns, and the tree before them.
-    pub fn constants(&self) -> Box<dyn Any> {
-        Box::new(self.assembly.create_constant_setup_polys(&self.worker))
-    }
-
-    /// The copy columns: labels, cells and the closing of the cycles.
-    pub fn copies(&self) -> Box<dyn Any> {
-        Box::new(self.assembly.create_permutation_polys(&self.worker, &mut ()))
-    }
-
-    /// The table columns.
-    pub fn tables(&self) -> Box<dyn Any> {
-        Box::new(self.assembly.create_lookup_tables_columns_polys(&self.worker))
     }
 }
