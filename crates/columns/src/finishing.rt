@@ -21,8 +21,7 @@ pub(crate) fn all_used(many: u64, used: &[u64; 128]) -> bool
     true
 }
 
-// Whether a variable's value is below p and, where it is seen, its first cell one of `cells`. The
-// cell is asked first: which variables are seen cannot be foretold, that their cells are fine can.
+// Whether a variable's value is below p and, where it is seen, its first cell one of `cells`.
 fn variable_fine(cells: u64, v: u64, scratch: &[u64]) -> bool
     requires { ⌜ (v < 4294967296) × (2 * v + 1 < length (now scratch)) ⌝ }
     ensures { λ r. ⌜ r ≡ variableFine cells (now (scratch .entry)) v ⌝ }
@@ -32,14 +31,14 @@ fn variable_fine(cells: u64, v: u64, scratch: &[u64]) -> bool
     if field::P <= value {
         return false;
     }
-    if scratch[at + 1] < cells {
+    if value == 0 {
         return true;
     }
-    value == 0
+    scratch[at + 1] < cells
 }
 
-// The same for all variables.
-pub(crate) fn scratch_fine(variables: u64, cells: u64, scratch: &[u64]) -> bool
+// The same for all variables, one by one.
+fn each_fine(variables: u64, cells: u64, scratch: &[u64]) -> bool
     requires { ⌜ (variables ≤ 1048576) × (2 * variables ≤ length (now scratch)) ⌝ }
     ensures { λ r. ⌜ r ≡ scratchFine variables cells (now (scratch .entry)) ⌝ }
 {
@@ -52,6 +51,38 @@ pub(crate) fn scratch_fine(variables: u64, cells: u64, scratch: &[u64]) -> bool
         }
     }
     true
+}
+
+// Whether every variable, seen or not, has a value below p and a first cell of `cells`: so it is after
+// opening and cells, which leave an unseen variable's words 0. That a variable is seen is not asked,
+// since the processor cannot foretell it.
+fn all_within(variables: u64, cells: u64, scratch: &[u64]) -> bool
+    requires { ⌜ (variables ≤ 1048576) × (2 * variables ≤ length (now scratch)) ⌝ }
+    ensures { λ r. ⌜ (r ≡ true → scratchFine variables cells (now (scratch .entry)) ≡ true) ⌝ }
+{
+    let mut v: u64 = 0;
+    while v < variables {
+        let at = 2 * v as usize;
+        if field::P <= scratch[at] {
+            return false;
+        }
+        if cells <= scratch[at + 1] {
+            return false;
+        }
+        v = v + 1;
+    }
+    true
+}
+
+// Whether all variables are fine.
+pub(crate) fn scratch_fine(variables: u64, cells: u64, scratch: &[u64]) -> bool
+    requires { ⌜ (variables ≤ 1048576) × (2 * variables ≤ length (now scratch)) ⌝ }
+    ensures { λ r. ⌜ r ≡ scratchFine variables cells (now (scratch .entry)) ⌝ }
+{
+    if all_within(variables, cells, scratch) {
+        return true;
+    }
+    each_fine(variables, cells, scratch)
 }
 
 // A seen variable's value goes to its first cell.

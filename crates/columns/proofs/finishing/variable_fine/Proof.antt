@@ -1,4 +1,4 @@
--- `columns::finishing::variable_fine` meets its contract: the last two tests may be made in either order.
+-- `columns::finishing::variable_fine` meets its contract: the code makes the definition's tests in its order.
 -- Assumes nothing.
 use borrow.Author.Needs.{needs}
 use mathlib.Core.Path.{_≡_, refl, sym, ap, _∙_}
@@ -6,11 +6,10 @@ use native.Mathlib.Omega.{arith}
 use Prim.Native.Nat.{ℕ, suc, _+_, _-_, _*_, _<_, _≤_}
 use lib.ListN.{length, getD}
 use mathlib.Core.List.{List}
-use mathlib.Core.Bool.{Bool, true, false}
-use borrow.Author.Tests.{lt-ltb, le-ltb}
-use Rattle.base.specs.Pick.{pick}
+use borrow.Author.Tests.{lt-ltb, le-ltb, eq-eqb, ne-eqb}
 use Rattle.field.specs.Field.{p}
 use Rattle.pieces.specs.Finishing.{variableFine}
+use borrow.Author.Needs.{needs}
 use Rattle.columns.proofs.finishing.variable_fine.Statement.{statement}
 use Rattle.columns.proofs.finishing.variable_fine.Tie as tie
 
@@ -27,36 +26,22 @@ returns : tie.Need-returns
 unfolding variableFine
 returns c = let a = c .before .before .args in simp (le-ltb (getD (a .scratch .now) (2 * a .v) 0) p (c .if1 .taken))
 
-add-if2 : tie.Need-add-if2
-add-if2 c = search needs
-
-mul-if2 : tie.Need-mul-if2
-mul-if2 c = search needs
-
-shared-slice-read-if2 : tie.Need-shared-slice-read-if2
-shared-slice-read-if2 c = search needs
-
--- what is left of the definition's last test, where the first cell is within and where it is not
-pick-self : (b : Bool) → pick b true false ≡ b
-pick-self true = refl
-pick-self false = refl
-
-pick-same : (b : Bool) → pick b true true ≡ true
-pick-same true = refl
-pick-same false = refl
-
 returns-2 : tie.Need-returns-2
 unfolding variableFine
-returns-2 c =
-    let a = c .before .before .before .before .args in
-    let value = getD (a .scratch .now) (2 * a .v) 0 in
-    simp (lt-ltb value p (c .before .before .if1 .left), lt-ltb (getD (a .scratch .now) (2 * a .v + 1) 0) (a .cells) (c .if2 .taken), pick-same)
+returns-2 c = let a = c .before .before .before .args in simp (lt-ltb (getD (a .scratch .now) (2 * a .v) 0) p (c .before .if1 .left), eq-eqb (getD (a .scratch .now) (2 * a .v) 0) 0 (c .if2 .taken))
+
+add-result : tie.Need-add-result
+add-result c = search needs
+
+mul-result : tie.Need-mul-result
+mul-result c = search needs
+
+shared-slice-read-result : tie.Need-shared-slice-read-result
+shared-slice-read-result c = search needs
 
 returns-3 : tie.Need-returns-3
 unfolding variableFine
-returns-3 c =
-    let a = c .before .before .before .before .args in
-    simp (lt-ltb (getD (a .scratch .now) (2 * a .v) 0) p (c .before .before .if1 .left), le-ltb (getD (a .scratch .now) (2 * a .v + 1) 0) (a .cells) (c .if2 .left), pick-self)
+returns-3 c = let a = c .before .before .before .before .args in simp (lt-ltb (getD (a .scratch .now) (2 * a .v) 0) p (c .before .before .if1 .left), ne-eqb (getD (a .scratch .now) (2 * a .v) 0) 0 (c .before .if2 .left))
 
 pub variable-fine-spec : {M : Type 1} → statement M
 variable-fine-spec =
@@ -66,8 +51,8 @@ variable-fine-spec =
     mul-value
     shared-slice-read-value
     returns
-    add-if2
-    mul-if2
-    shared-slice-read-if2
     returns-2
+    add-result
+    mul-result
+    shared-slice-read-result
     returns-3)
