@@ -1,8 +1,18 @@
--- Private to the test for a made-up plan: marks and what a walk has seen, as one.
-use Prim.Native.Nat.{ℕ}
+-- Private to the test for a made-up plan: marks, greatest numbers and whether nothing was wrong, as one walk.
+--
+-- Main definitions: `walk`, `Most`.
+use Prim.Native.Nat.{ℕ, max, _≤_}
+use mathlib.Core.Bool.{Bool}
 use mathlib.Core.List.{List}
+use mathlib.Core.Path.{_≡_}
+use lib.ListN.{length, getD}
 use Rattle.selector.specs.Walk.{Walk}
-use Rattle.tree.specs.declared.made_up.Seen.{Seen}
 
-abbrev pub walk : List ℕ → Seen → Walk
-walk ms s = record { marks = ms; fine = s .fine; degree = s .degree; constants = s .constants }
+-- the first of two words is the degree, the second the constants
+abbrev pub walk : List ℕ → List ℕ → Bool → Walk
+walk ms most fine = record { marks = ms; fine = fine; degree = getD most 0 0; constants = getD most 1 0 }
+
+-- they stay two words, and a degree at depth is at most 200
+pub record Most (before after : List ℕ) : Type 0 where
+  pub two : length after ≡ 2
+  pub small : getD after 0 0 ≤ max (getD before 0 0) 200

@@ -1,123 +1,103 @@
 // 01's test for a made-up plan (19), as far as its nodes, D, K and F go.
 ghost use mathlib.Core.Path.{_≡_};
-ghost use Prim.Native.Nat.{ℕ, _+_, _*_, _≤_, _<_, max};
+ghost use mathlib.Core.Bool.{true};
+ghost use Prim.Native.Nat.{ℕ, _+_, _*_, _≤_, _<_};
 ghost use lib.ListN.{length, getD};
 ghost use Rattle.selector.specs.Gates.{gateWords};
 ghost use Rattle.selector.specs.Refusals.{Sound};
 ghost use Rattle.selector.specs.Nodes.{treeAt};
 ghost use Rattle.selector.specs.MadeUp.{linkedAt, linkedFrom, wanted, asWanted, nodesFit, numbersAre};
 ghost use Rattle.selector.specs.Walk.{meet, Visited, Links};
-ghost use Rattle.tree.specs.Walks.{walk};
+ghost use Rattle.tree.specs.Walks.{walk, Most};
 use crate::gates::GATE_WORDS;
 use crate::gates::constants_of;
 use crate::gates::degree_at_depth;
 use crate::gates::factor_of;
 
-// What a walk has seen: whether nothing was wrong, the greatest degree at depth and the greatest constants plus depth.
-pub struct Seen {
-    pub fine: bool,
-    pub degree: u64,
-    pub constants: u64,
-}
-
-// A leaf is met: a gate that is unlisted or met before ends the walk.
+// A leaf is met: a gate that is unlisted or met before ends the walk. `most` has the greatest degree at depth and the greatest constants plus depth so far.
 fn meet(
     gates: &[u64],
     marks: &mut [u64; 128],
+    most: &mut [u64; 2],
     many: usize,
     gate: u64,
     level: u64,
     extra: u64,
-    seen: Seen,
-) -> Seen
+) -> bool
     requires { ⌜ Sound (now gates) many extra ⌝ }
-    requires { ⌜ level ≤ 100 ⌝ }
-    ensures { λ r. ⌜ walk (now (marks .exit)) r ≡ meet extra (now (gates .entry)) many gate level (walk (now (marks .entry)) seen) ⌝ }
-    ensures { λ r. ⌜ r .degree ≤ max (seen .degree) 200 ⌝ }
+    requires { ⌜ (level ≤ 100) × (length (now most) ≡ 2) ⌝ }
+    ensures { λ r. ⌜ walk (now (marks .exit)) (now (most .exit)) r ≡ meet extra (now (gates .entry)) many gate level (walk (now (marks .entry)) (now (most .entry)) true) ⌝ }
+    ensures { λ _. ⌜ Most (now (most .entry)) (now (most .exit)) ⌝ }
 {
     if many as u64 <= gate {
-        return Seen {
-            fine: false,
-            degree: seen.degree,
-            constants: seen.constants,
-        };
+        return false;
     }
     let g = gate as usize;
     if marks[g] != 0 {
-        return Seen {
-            fine: false,
-            degree: seen.degree,
-            constants: seen.constants,
-        };
+        return false;
     }
     marks[g] = 1;
-    let degree = base::greater(seen.degree, degree_at_depth(gates, gate, level));
-    let constants = base::greater(seen.constants, constants_of(gates, gate, extra) + level);
-    Seen {
-        fine: true,
-        degree: degree,
-        constants: constants,
-    }
+    let degree = base::greater(most[0], degree_at_depth(gates, gate, level));
+    let constants = base::greater(most[1], constants_of(gates, gate, extra) + level);
+    most[0] = degree;
+    most[1] = constants;
+    true
 }
 
-// The tree at a node is walked, at most `levels` deep. A gate met twice ends the walk, so that it is linear in the gates however the nodes point at one another.
+// The tree at a node is walked, at most `levels` deep; whether nothing was wrong. A gate met twice ends the walk, so that it is linear in the gates however the nodes point at one another.
 fn visit<'a>(
     gates: &'a [u64],
     nodes: &'a [u64; 765],
     marks: &mut [u64; 128],
+    most: &mut [u64; 2],
     many: usize,
     count: usize,
     at: usize,
     level: u64,
     levels: u64,
     extra: u64,
-    seen: Seen,
-) -> Seen
+) -> bool
     requires { ⌜ Sound (now gates) many extra ⌝ }
     requires { ⌜ Links (now nodes) count ⌝ }
-    requires { ⌜ (at < count) × (count ≤ 255) × (level + levels ≤ 100) ⌝ }
-    ensures { λ r. ⌜ Visited extra (now (gates .entry)) many (treeAt levels (now (nodes .entry)) at) level (walk (now (marks .entry)) seen) (walk (now (marks .exit)) r) ⌝ }
-    ensures { λ r. ⌜ r .degree ≤ max (seen .degree) 200 ⌝ }
+    requires { ⌜ (at < count) × (count ≤ 255) × (level + levels ≤ 100) × (length (now most) ≡ 2) ⌝ }
+    ensures { λ r. ⌜ Visited extra (now (gates .entry)) many (treeAt levels (now (nodes .entry)) at) level (walk (now (marks .entry)) (now (most .entry)) true) (walk (now (marks .exit)) (now (most .exit)) r) ⌝ }
+    ensures { λ _. ⌜ Most (now (most .entry)) (now (most .exit)) ⌝ }
 {
     if levels == 0 {
-        return Seen {
-            fine: false,
-            degree: seen.degree,
-            constants: seen.constants,
-        };
+        return false;
     }
     let left = nodes[at * 3] as usize;
     if left == 0 {
-        return meet(gates, marks, many, nodes[at * 3 + 2], level, extra, seen);
+        return meet(gates, marks, most, many, nodes[at * 3 + 2], level, extra);
     }
-    let one = visit(
+    let fine = visit(
         gates,
         nodes,
         marks,
+        most,
         many,
         count,
         left,
         level + 1,
         levels - 1,
         extra,
-        seen,
     );
-    if one.fine {
+    if fine {
         let right = nodes[at * 3 + 1] as usize;
         return visit(
             gates,
             nodes,
             marks,
+            most,
             many,
             count,
             right,
             level + 1,
             levels - 1,
             extra,
-            one,
         );
     }
-    one
+    false
 }
 
 // Whether a node is a leaf, without child words, or has both children behind it and within the nodes.
@@ -185,12 +165,12 @@ fn as_wanted<'a>(gates: &'a [u64], marks: &'a [u64; 128], many: usize) -> bool
 }
 
 // Whether D, K and F are those that the walk found.
-fn numbers_fit(seen: Seen, d: u64, k: u64, f: u64) -> bool
-    requires { ⌜ seen .degree ≤ 200 ⌝ }
-    ensures { λ r. ⌜ r ≡ numbersAre (seen .degree) (seen .constants) d k f ⌝ }
+fn numbers_fit(degree: u64, constants: u64, d: u64, k: u64, f: u64) -> bool
+    requires { ⌜ degree ≤ 200 ⌝ }
+    ensures { λ r. ⌜ r ≡ numbersAre degree constants d k f ⌝ }
 {
-    if d == seen.degree {
-        if k == seen.constants {
+    if d == degree {
+        if k == constants {
             return f == factor_of(d);
         }
     }
@@ -218,27 +198,23 @@ pub(crate) fn nodes_fit<'a>(
         return false;
     }
     if linked(nodes, count) {
-        let start = Seen {
-            fine: true,
-            degree: 0,
-            constants: 0,
-        };
         let mut marks = [0; 128];
-        let seen = visit(
+        let mut most = [0; 2];
+        let fine = visit(
             gates,
             nodes,
             &mut marks,
+            &mut most,
             many,
             count,
             0,
             0,
             32,
             extra,
-            start,
         );
-        if seen.fine {
+        if fine {
             if as_wanted(gates, &marks, many) {
-                return numbers_fit(seen, d, k, f);
+                return numbers_fit(most[0], most[1], d, k, f);
             }
         }
     }

@@ -2,11 +2,12 @@
 -- walked where the left side was fine. The levels fall.
 -- Assumes nothing.
 use Prim.Native.Nat.{_<_, ℕ}
+use mathlib.Core.Bool.{true}
 use mathlib.Core.Path.{refl}
 use native.Mathlib.Omega.{arith}
 use Rattle.selector.specs.Walk.{lost}
 use Rattle.selector.specs.WalkLaws.{visit-go, visit-leaf, visit-none, visit-stop}
-use Rattle.tree.specs.Walks.{walk}
+use Rattle.tree.specs.Walks.{walk, Most}
 use borrow.Fn.Kinds.{In}
 use borrow.Fn.PlainCycle.{Measures, is, falls, and}
 use Rattle.tree.proofs.made_up.visit.Reads as visit
@@ -16,14 +17,14 @@ use Rattle.tree.proofs.made_up.meet.Reads as meet-reads
 use Rattle.tree.proofs.made_up.+visit.{statement}
 use Rattle.tree.proofs.made_up.+visit.Tie.{close}
 
-abbrev μ-visit : Measures 2 visit-kinds.ps ℕ
-μ-visit κs a = a .1 .1 .1 .1 .1 .1 .1 .0
+abbrev μ-visit : Measures 3 visit-kinds.ps ℕ
+μ-visit κs a = a .1 .1 .1 .1 .1 .1 .1 .1 .0
 
-abbrev visit-at : ℕ → In 2 visit-kinds.ps
-visit-at t = and 2 visit-kinds.ps (is 2 visit-kinds.ps μ-visit t) visit.Pre
+abbrev visit-at : ℕ → In 3 visit-kinds.ps
+visit-at t = and 3 visit-kinds.ps (is 3 visit-kinds.ps μ-visit t) visit.Pre
 
-abbrev visit-below : ℕ → In 2 visit-kinds.ps
-visit-below t = and 2 visit-kinds.ps (falls 2 visit-kinds.ps _<_ μ-visit t) visit.Pre
+abbrev visit-below : ℕ → In 3 visit-kinds.ps
+visit-below t = and 3 visit-kinds.ps (falls 3 visit-kinds.ps _<_ μ-visit t) visit.Pre
 
 visit-returns : (t : ℕ) → visit-lts.Need-returns (
   meet-reads.Asked,
@@ -34,7 +35,7 @@ visit-returns : (t : ℕ) → visit-lts.Need-returns (
 visit-returns t c =
     let s = c .before .before in
     let a = s .args in
-    (visit-none (a .extra) (a .gates .now) (a .many) (a .nodes .now) (a .at) (a .level) (walk (a .marks .now) (a .seen)) (a .levels) (lost (walk (a .marks .now) (a .seen))) (c .if1 .taken) refl, omega arith)
+    (visit-none (a .extra) (a .gates .now) (a .many) (a .nodes .now) (a .at) (a .level) (walk (a .marks .now) (a .most .now) true) (a .levels) (lost (walk (a .marks .now) (a .most .now) true)) (c .if1 .taken) refl, record { two = s .pre .1 .1 .1 .3; small = omega arith })
 
 visit-mul-left : (t : ℕ) → visit-lts.Need-mul-left (
   meet-reads.Asked,
@@ -76,7 +77,7 @@ visit-mul-meet : (t : ℕ) → visit-lts.Need-mul-meet (
   visit.Post,
 ) (visit-at t) visit.Post
 visit-mul-meet t c =
-    let s = c .before .before .before .before .before in
+    let s = c .before .before .before .before .before .before in
     let p = s .pre .1 in
     omega (arith, p .1 .1)
 
@@ -87,7 +88,7 @@ visit-add-meet : (t : ℕ) → visit-lts.Need-add-meet (
   visit.Post,
 ) (visit-at t) visit.Post
 visit-add-meet t c =
-    let s = c .before .before .before .before .before in
+    let s = c .before .before .before .before .before .before in
     let p = s .pre .1 in
     omega (arith, p .1 .1)
 
@@ -98,7 +99,7 @@ visit-mul-meet-2 : (t : ℕ) → visit-lts.Need-mul-meet-2 (
   visit.Post,
 ) (visit-at t) visit.Post
 visit-mul-meet-2 t c =
-    let s = c .before .before .before .before .before in
+    let s = c .before .before .before .before .before .before in
     let p = s .pre .1 in
     omega (arith, p .1 .1)
 
@@ -109,7 +110,7 @@ visit-element-copy-out-meet : (t : ℕ) → visit-lts.Need-element-copy-out-meet
   visit.Post,
 ) (visit-at t) visit.Post
 visit-element-copy-out-meet t c =
-    let s = c .before .before .before .before .before in
+    let s = c .before .before .before .before .before .before in
     let p = s .pre .1 in
     omega (arith, p .1 .1)
 
@@ -120,9 +121,9 @@ visit-meet-requires : (t : ℕ) → visit-lts.Need-meet-requires (
   visit.Post,
 ) (visit-at t) visit.Post
 visit-meet-requires t c κs =
-    let s = c .before .before .before .before .before .before in
+    let s = c .before .before .before .before .before .before .before in
     let p = s .pre .1 in
-    (p .0, omega (arith, p .1 .1))
+    (p .0, (omega (arith, p .1 .1 .2), p .1 .1 .3))
 
 visit-returns-2 : (t : ℕ) → visit-lts.Need-returns-2 (
   meet-reads.Asked,
@@ -131,9 +132,9 @@ visit-returns-2 : (t : ℕ) → visit-lts.Need-returns-2 (
   visit.Post,
 ) (visit-at t) visit.Post
 visit-returns-2 t c =
-    let s = c .before .before .before .before .before .before .before in
+    let s = c .before .before .before .before .before .before .before .before in
     let a = s .args in
-    (visit-leaf (a .extra) (a .gates .now) (a .many) (a .nodes .now) (a .at) (a .level) (walk (a .marks .now) (a .seen)) (a .levels) _ (omega (arith, c .before .before .before .before .before .if1 .left)) (c .before .before .before .if2 .taken) (c .meet .ensures .0), c .meet .ensures .1)
+    (visit-leaf (a .extra) (a .gates .now) (a .many) (a .nodes .now) (a .at) (a .level) (walk (a .marks .now) (a .most .now) true) (a .levels) _ (omega (arith, c .before .before .before .before .before .before .if1 .left)) (c .before .before .before .before .if2 .taken) (c .meet .ensures .0), c .meet .ensures .1)
 
 visit-add-visit : (t : ℕ) → visit-lts.Need-add-visit (
   meet-reads.Asked,
@@ -142,7 +143,7 @@ visit-add-visit : (t : ℕ) → visit-lts.Need-add-visit (
   visit.Post,
 ) (visit-at t) visit.Post
 visit-add-visit t c =
-    let s = c .before .before .before .before .before in
+    let s = c .before .before .before .before .before .before in
     let p = s .pre .1 in
     omega (arith, p .1 .1)
 
@@ -153,9 +154,9 @@ visit-sub-visit : (t : ℕ) → visit-lts.Need-sub-visit (
   visit.Post,
 ) (visit-at t) visit.Post
 visit-sub-visit t c =
-    let s = c .before .before .before .before .before in
+    let s = c .before .before .before .before .before .before in
     let p = s .pre .1 in
-    omega (arith, p .1 .1, c .before .before .before .if1 .left)
+    omega (arith, p .1 .1, c .before .before .before .before .if1 .left)
 
 visit-visit-requires : (t : ℕ) → visit-lts.Need-visit-requires (
   meet-reads.Asked,
@@ -164,10 +165,11 @@ visit-visit-requires : (t : ℕ) → visit-lts.Need-visit-requires (
   visit.Post,
 ) (visit-at t) visit.Post
 visit-visit-requires t c κs =
-    let s = c .before .before .before .before .before in
+    let s = c .before .before .before .before .before .before in
     let a = s .args in
     let p = s .pre .1 in
-    (omega (arith, c .before .before .before .if1 .left), (p .0, (p .1 .0, (p .1 .0 (a .at) (p .1 .1 .0) (c .before .if2 .left) .0, p .1 .1 .1, omega (arith, p .1 .1, c .before .before .before .if1 .left)))))
+    let m = c .before .before .before .before .if1 .left in
+    (omega (arith, m), (p .0, (p .1 .0, (p .1 .0 (a .at) (p .1 .1 .0) (c .before .before .if2 .left) .0, p .1 .1 .1, omega (arith, p .1 .1 .2, m), p .1 .1 .3))))
 
 visit-mul-right : (t : ℕ) → visit-lts.Need-mul-right (
   meet-reads.Asked,
@@ -176,7 +178,7 @@ visit-mul-right : (t : ℕ) → visit-lts.Need-mul-right (
   visit.Post,
 ) (visit-at t) visit.Post
 visit-mul-right t c =
-    let s = c .before .before .before .before .before .before .before in
+    let s = c .before .before .before .before .before .before .before .before in
     let p = s .pre .1 in
     omega (arith, p .1 .1)
 
@@ -187,7 +189,7 @@ visit-add-right : (t : ℕ) → visit-lts.Need-add-right (
   visit.Post,
 ) (visit-at t) visit.Post
 visit-add-right t c =
-    let s = c .before .before .before .before .before .before .before in
+    let s = c .before .before .before .before .before .before .before .before in
     let p = s .pre .1 in
     omega (arith, p .1 .1)
 
@@ -198,7 +200,7 @@ visit-mul-right-2 : (t : ℕ) → visit-lts.Need-mul-right-2 (
   visit.Post,
 ) (visit-at t) visit.Post
 visit-mul-right-2 t c =
-    let s = c .before .before .before .before .before .before .before in
+    let s = c .before .before .before .before .before .before .before .before in
     let p = s .pre .1 in
     omega (arith, p .1 .1)
 
@@ -209,7 +211,7 @@ visit-element-copy-out-right : (t : ℕ) → visit-lts.Need-element-copy-out-rig
   visit.Post,
 ) (visit-at t) visit.Post
 visit-element-copy-out-right t c =
-    let s = c .before .before .before .before .before .before .before in
+    let s = c .before .before .before .before .before .before .before .before in
     let p = s .pre .1 in
     omega (arith, p .1 .1)
 
@@ -220,7 +222,7 @@ visit-add-visit-2 : (t : ℕ) → visit-lts.Need-add-visit-2 (
   visit.Post,
 ) (visit-at t) visit.Post
 visit-add-visit-2 t c =
-    let s = c .before .before .before .before .before .before .before .before .before in
+    let s = c .before .before .before .before .before .before .before .before .before .before .before in
     let p = s .pre .1 in
     omega (arith, p .1 .1)
 
@@ -231,9 +233,9 @@ visit-sub-visit-2 : (t : ℕ) → visit-lts.Need-sub-visit-2 (
   visit.Post,
 ) (visit-at t) visit.Post
 visit-sub-visit-2 t c =
-    let s = c .before .before .before .before .before .before .before .before .before in
+    let s = c .before .before .before .before .before .before .before .before .before .before .before in
     let p = s .pre .1 in
-    omega (arith, p .1 .1, c .before .before .before .before .before .before .before .if1 .left)
+    omega (arith, p .1 .1, c .before .before .before .before .before .before .before .before .before .if1 .left)
 
 visit-visit-requires-2 : (t : ℕ) → visit-lts.Need-visit-requires-2 (
   meet-reads.Asked,
@@ -242,10 +244,11 @@ visit-visit-requires-2 : (t : ℕ) → visit-lts.Need-visit-requires-2 (
   visit.Post,
 ) (visit-at t) visit.Post
 visit-visit-requires-2 t c κs =
-    let s = c .before .before .before .before .before .before .before .before .before in
+    let s = c .before .before .before .before .before .before .before .before .before .before .before in
     let a = s .args in
     let p = s .pre .1 in
-    (omega (arith, c .before .before .before .before .before .before .before .if1 .left), (p .0, (p .1 .0, (p .1 .0 (a .at) (p .1 .1 .0) (c .before .before .before .before .before .if2 .left) .1, p .1 .1 .1, omega (arith, p .1 .1, c .before .before .before .before .before .before .before .if1 .left)))))
+    let m = c .before .before .before .before .before .before .before .before .before .if1 .left in
+    (omega (arith, m), (p .0, (p .1 .0, (p .1 .0 (a .at) (p .1 .1 .0) (c .before .before .before .before .before .before .before .if2 .left) .1, p .1 .1 .1, omega (arith, p .1 .1 .2, m), c .before .before .before .before .visit .ensures .1 .two))))
 
 visit-returns-3 : (t : ℕ) → visit-lts.Need-returns-3 (
   meet-reads.Asked,
@@ -254,9 +257,14 @@ visit-returns-3 : (t : ℕ) → visit-lts.Need-returns-3 (
   visit.Post,
 ) (visit-at t) visit.Post
 visit-returns-3 t c =
-    let s = c .before .before .before .before .before .before .before .before .before .before in
+    let s = c .before .before .before .before .before .before .before .before .before .before .before .before in
     let a = s .args in
-    (visit-go (a .extra) (a .gates .now) (a .many) (a .nodes .now) (a .at) (a .level) (walk (a .marks .now) (a .seen)) (a .levels) (walk (c .before .before .before .before .visit .last .1 .1 .0) (c .before .before .before .before .visit .result)) _ (omega (arith, c .before .before .before .before .before .before .before .before .if1 .left)) (c .before .before .before .before .before .before .if2 .left) (c .before .before .before .before .visit .ensures .0) (c .before .before .before .if3 .taken) (c .visit2 .ensures .0), omega (arith, c .before .before .before .before .visit .ensures .1, c .visit2 .ensures .1))
+    let one = c .before .before .before .before .before .visit in
+    let fine = c .before .before .before .before .if3 .taken in
+    let between = walk (one .last .1 .1 .0) (one .last .1 .1 .1 .0) true in (
+      visit-go (a .extra) (a .gates .now) (a .many) (a .nodes .now) (a .at) (a .level) (walk (a .marks .now) (a .most .now) true) (a .levels) between _ (omega (arith, c .before .before .before .before .before .before .before .before .before .before .if1 .left)) (c .before .before .before .before .before .before .before .before .if2 .left) (rw fine at (one .ensures .0)) refl (c .visit2 .ensures .0),
+      record { two = c .visit2 .ensures .1 .two; small = omega (arith, one .ensures .1 .small, c .visit2 .ensures .1 .small) },
+    )
 
 visit-returns-4 : (t : ℕ) → visit-lts.Need-returns-4 (
   meet-reads.Asked,
@@ -265,9 +273,10 @@ visit-returns-4 : (t : ℕ) → visit-lts.Need-returns-4 (
   visit.Post,
 ) (visit-at t) visit.Post
 visit-returns-4 t c =
-    let s = c .before .before .before .before .before .before .before in
+    let s = c .before .before .before .before .before .before .before .before in
     let a = s .args in
-    (visit-stop (a .extra) (a .gates .now) (a .many) (a .nodes .now) (a .at) (a .level) (walk (a .marks .now) (a .seen)) (a .levels) _ (omega (arith, c .before .before .before .before .before .if1 .left)) (c .before .before .before .if2 .left) (c .before .visit .ensures .0) (c .if3 .left), c .before .visit .ensures .1)
+    let one = c .before .visit in
+    (visit-stop (a .extra) (a .gates .now) (a .many) (a .nodes .now) (a .at) (a .level) (walk (a .marks .now) (a .most .now) true) (a .levels) _ (omega (arith, c .before .before .before .before .before .before .if1 .left)) (c .before .before .before .before .if2 .left) (rw (c .if3 .left) at (one .ensures .0)) refl, one .ensures .1)
 
 pub +visit-spec : {M : Type 1} → statement M
 +visit-spec = close μ-visit λ t. visit-lts.spec (
