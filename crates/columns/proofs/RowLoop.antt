@@ -10,11 +10,15 @@ use Rattle.pieces.specs.Records.{Read, whole, cut, rowSize, rowsOf}
 use Rattle.pieces.specs.Writing.{put, padded, putLines}
 use Rattle.pieces.specs.Rows.{rowFault, rowsFault, rowLines, marked}
 use Rattle.pieces.specs.RecordLaws.{Rest, rest-begin, rest-done, rest-whole, fault-head, going}
-use Rattle.pieces.specs.FaultLaws.{RowFine, row-cut, row-fine, rows-room}
+use Rattle.pieces.specs.FaultLaws.{RowFine, row-cut, row-fine, rows-room, rows-own-same}
 use Rattle.pieces.specs.ClosedForms.{lines-many}
 use Rattle.pieces.specs.LineLaws.{marks-turn, marks-done}
+use Rattle.selector.specs.Gates.{constantsOf}
+use Rattle.tree.specs.Plan.{gatesGiven, planExtra}
+use Rattle.tree.specs.declared.plan.Plan.{Plan}
 use Rattle.columns.specs.Digits.{Spelled}
-use Rattle.columns.specs.Placed.{Spells}
+use Rattle.columns.specs.Placed.{Spells, GatesOf}
+use Rattle.columns.specs.declared.rows.GateRows.{GateRows}
 use Rattle.columns.specs.Windows.{putWindow, window-turn, window-done, window-none, window-more}
 
 module _ (count : ℕ) (piece : List ℕ) where
@@ -166,3 +170,10 @@ module _ (trace count : ℕ) (piece constants₀ bits steps : List ℕ) where
             wrote many own path e s ∙ ap (putWindow low w trace count (rowLines path (rowsOf piece))) (v .lines many own path e s)
             ∙ sym (window-more low w trace count (rowLines path (rowsOf piece)) constants₀ (lines-left many own path trace count (rowsOf piece) e));
       }
+
+-- ---- the gates' constants are the plan's, so that the test of rows is the plan's
+pub gates-fault : (q : Plan) (r : GateRows) → GatesOf q r → (N count : ℕ) (ts : List Read)
+    → rowsFault (r .many) (λ (g : ℕ). getD (r .own) g 0) N count ts ≡ rowsFault (q .«gate_count») (constantsOf (planExtra q) (gatesGiven q)) N count ts
+gates-fault q r g N count ts =
+    ap (λ (many : ℕ). rowsFault many (λ (k : ℕ). getD (r .own) k 0) N count ts) (g .many-is)
+    ∙ rows-own-same (q .«gate_count») _ (constantsOf (planExtra q) (gatesGiven q)) N count ts (g .own-is)

@@ -1,6 +1,6 @@
 -- What the rows of a call need of the gates: path and number of constants of each, as lists by the gate's place.
 --
--- Main definitions: `Spells`, `Fits`, `Faultless`, `FaultlessIn`, `GatesOf`.
+-- Main definitions: `Spells`, `Fits`, `FaultlessIn`, `GatesOf`.
 use mathlib.Core.Path.{_≡_}
 use mathlib.Core.List.{List}
 use Prim.Native.Nat.{ℕ, _+_, _≤_, _<_}
@@ -22,16 +22,7 @@ pub record Fits (many height : ℕ) (own steps : List ℕ) : Type 0 where
   pub short : (g : ℕ) → g < many → getD steps g 0 ≤ 32
   pub fits : (g : ℕ) → g < many → getD steps g 0 + getD own g 0 ≤ height
 
--- rows that some gates, at most 128 of them, and some trace have no fault with, from the row `count` on
-pub record Faultless (count : ℕ) (piece : List ℕ) : Type 0 where
-  pub many : ℕ
-  pub own : ℕ → ℕ
-  pub trace : ℕ
-  pub few : many ≤ 128
-  pub long : trace ≤ 65536
-  pub no-fault : rowsFault many own trace count (rowsOf piece) ≡ 0
-
--- the same for this trace: rows that some gates, at most 128 of them, have no fault with
+-- rows that some gates, at most 128 of them, have no fault with, from the row `count` on
 pub record FaultlessIn (trace count : ℕ) (piece : List ℕ) : Type 0 where
   pub many : ℕ
   pub own : ℕ → ℕ

@@ -3,7 +3,6 @@
 -- Main definition: `Sound`. Main statement: `sound`.
 use mathlib.Core.Path.{_≡_, refl, sym, ap, _∙_, subst}
 use mathlib.Core.Bool.{Bool, true, false}
-use mathlib.Core.Logic.{_≢_}
 use mathlib.Core.List.{List, []}
 use mathlib.Core.Option.{Option, none, some}
 use Prim.Native.Nat.{ℕ, zero, suc, _+_, _*_, _≤_, _<_}
@@ -12,7 +11,7 @@ use native.Mathlib.Omega.{arith}
 use lib.Dec.{eqb}
 use lib.Seq.{length-take-le, getD-take}
 use borrow.Author.Tests.{eq-eqb, ne-eqb, eqb-true, lt-ltb}
-use lib.ListN.{length, getD}
+use lib.ListN.{length}
 use Rattle.base.specs.Firsts.{first-zero}
 use Rattle.labels.specs.Ranges.{Ranges, ranges-fit, rangesFit}
 use Rattle.base.specs.Pick.{pick, pick-zero}
@@ -158,17 +157,14 @@ module _ (q : Plan) (e : planFault q ≡ 0) (long : 384 ≤ length (q .gates)) w
       }
 
 -- ---- what the code reads off a plan
--- a gate word, of the listed ones
-pub given-word : (q : Plan) (i : ℕ) → i < q .«gate_count» * gateWords → getD (gatesGiven q) i 0 ≡ getD (q .gates) i 0
-given-word q i h = rw (getD-take (q .«gate_count» * gateWords) (q .gates) i 0 h)
-
-pub own-lookup : (x : ℕ) (gs : List ℕ) (g : ℕ) → kindOf gs g ≡ 3 → constantsOf x gs g ≡ x
+-- a gate's constants, of the listed ones, are read off the plan's array
+pub own-given : (q : Plan) (x g : ℕ) → g < q .«gate_count» → constantsOf x (q .gates) g ≡ constantsOf x (gatesGiven q) g
 unfolding constantsOf
-own-lookup x gs g e = rw (eq-eqb (kindOf gs g) 3 e)
-
-pub own-plain : (x : ℕ) (gs : List ℕ) (g : ℕ) → kindOf gs g ≢ 3 → constantsOf x gs g ≡ constantsWord gs g
-unfolding constantsOf
-own-plain x gs g d = rw (ne-eqb (kindOf gs g) 3 d)
+own-given q x g h =
+    rw (
+      getD-take (q .«gate_count» * gateWords) (q .gates) (g * gateWords) 0 (omega arith),
+      getD-take (q .«gate_count» * gateWords) (q .gates) (g * gateWords + 2) 0 (omega arith),
+    )
 
 pub path-good : (q : Plan) (g : ℕ) → planFault q ≡ 0 → g < q .«gate_count» → pathAnswer q g ≡ record { number = 0; bits = bitsOf (planPath q g); length = length (planPath q g) }
 unfolding pathAnswer

@@ -16,8 +16,7 @@ use crate::finishing::write_firsts;
 use crate::gates::gate_rows;
 use crate::opening::clear;
 use crate::records::write_words;
-use crate::rows::mark_rows;
-use crate::rows::rows_fault;
+use crate::rows::test_rows;
 use crate::rows::write_rows;
 use crate::s_words::s_words_fault;
 use crate::tables::MOST_TABLES;
@@ -208,12 +207,11 @@ impl Intake {
             }
             let gates = gate_rows(plan);
             let own = gates.own;
-            let fault = rows_fault(gates.many, &own, plan.trace, self.rows, piece);
-            if fault != 0 {
-                return refused(fault, self);
-            }
             let mut used = self.used;
-            let rows = mark_rows(self.rows, piece, &mut used);
+            let tested = test_rows(gates.many, &own, plan.trace, self.rows, piece, &mut used);
+            if tested.number != 0 {
+                return refused(tested.number, self);
+            }
             write_rows(
                 plan.constants,
                 plan.trace,
@@ -224,7 +222,7 @@ impl Intake {
             );
             let state = Intake {
                 plan: plan,
-                rows: rows,
+                rows: tested.rows,
                 s_words: self.s_words,
                 cells: self.cells,
                 tables: self.tables,

@@ -7,7 +7,7 @@ ghost use Rattle.pieces.specs.Records.{rowSize, front, rowsOf};
 ghost use Rattle.pieces.specs.Writing.{put, padded, putLines};
 ghost use Rattle.pieces.specs.Rows.{rowFault, rowsFault, rowLines, marked};
 ghost use Rattle.columns.specs.Digits.{Spelled};
-ghost use Rattle.columns.specs.Placed.{Spells, Fits, Faultless, FaultlessIn};
+ghost use Rattle.columns.specs.Placed.{Spells, Fits, FaultlessIn};
 ghost use Rattle.columns.specs.Windows.{putWindow};
 use crate::records::all_below;
 use crate::records::beyond;
@@ -46,22 +46,46 @@ fn row_fault(many: u64, own: &[u64; 128], trace: u64, row: u64, words: &[u64]) -
     11
 }
 
-// The number of the first faulty record of a piece.
-pub(crate) fn rows_fault(many: u64, own: &[u64; 128], trace: u64, count: u64, piece: &[u64]) -> u64
+// What a test of row records found: 0 or the number of the first faulty one; where it is 0, how many
+// rows there are then.
+pub struct Tested {
+    pub number: u64,
+    pub rows: u64,
+}
+
+// The records of a piece, counted on from `count`: the number of the first faulty one. Their gates are
+// marked on the way, in one walk with the test; the marks mean something only where there is no fault.
+pub(crate) fn test_rows(
+    many: u64,
+    own: &[u64; 128],
+    trace: u64,
+    count: u64,
+    piece: &[u64],
+    used: &mut [u64; 128],
+) -> Tested
     requires { ⌜ (many ≤ 128) × (count ≤ trace) × (trace ≤ 65536) ⌝ }
-    ensures { λ r. ⌜ r ≡ rowsFault many (λ (g : ℕ). getD (now (own .entry)) g 0) trace count (rowsOf (now (piece .entry))) ⌝ }
+    ensures { λ r. ⌜ r .number ≡ rowsFault many (λ (g : ℕ). getD (now (own .entry)) g 0) trace count (rowsOf (now (piece .entry))) ⌝ }
+    ensures { λ r. ⌜ (r .number ≡ 0 → (r .rows ≡ count + length (rowsOf (now (piece .entry)))) × (now (used .exit) ≡ marked (now (used .entry)) (rowsOf (now (piece .entry))))) ⌝ }
 {
     let mut row = count;
     let mut i = 0;
     while i < piece.len() {
         let fault = row_fault(many, own, trace, row, &piece[i..]);
         if fault != 0 {
-            return fault;
+            return Tested {
+                number: fault,
+                rows: row,
+            };
         }
+        let g = piece[i] as usize;
+        used[g] = 1;
         row = row + 1;
         i = i + 2 + piece[i + 1] as usize;
     }
-    0
+    Tested {
+        number: 0,
+        rows: row,
+    }
 }
 
 // One row's words in the `width` columns from column `low` on, the first of them at place `at`: the
@@ -106,23 +130,6 @@ pub struct GateRows {
     pub bits: [u64; 128],
     pub steps: [u64; 128],
     pub own: [u64; 128],
-}
-
-// The records of a piece without a fault, counted on from `count`; their gates are marked.
-pub(crate) fn mark_rows(count: u64, piece: &[u64], used: &mut [u64; 128]) -> u64
-    requires { ⌜ Faultless count (now piece) ⌝ }
-    ensures { λ r. ⌜ r ≡ count + length (rowsOf (now (piece .entry))) ⌝ }
-    ensures { λ _. ⌜ now (used .exit) ≡ marked (now (used .entry)) (rowsOf (now (piece .entry))) ⌝ }
-{
-    let mut row = count;
-    let mut i = 0;
-    while i < piece.len() {
-        let g = piece[i] as usize;
-        used[g] = 1;
-        row = row + 1;
-        i = i + 2 + piece[i + 1] as usize;
-    }
-    row
 }
 
 // The records of a piece without a fault, in the rows from `count` on: their words in the `width`

@@ -17,8 +17,7 @@ use crate::gates::gate_rows;
 use crate::intake::Intake;
 use crate::intake::OPEN;
 use crate::intake::room_number;
-use crate::rows::mark_rows;
-use crate::rows::rows_fault;
+use crate::rows::test_rows;
 use crate::s_words::s_words_fault;
 use crate::tables::tables_fault;
 use tree::plan::Plan;
@@ -50,7 +49,9 @@ fn pieces_fault(plan: Plan, rows: &[u64], s_words: &[u64], cells: &[u64], tables
 {
     let gates = gate_rows(plan);
     let own = gates.own;
-    let in_rows = rows_fault(gates.many, &own, plan.trace, 0, rows);
+    // not read: finishing comes later
+    let mut marks = [0; 128];
+    let in_rows = test_rows(gates.many, &own, plan.trace, 0, rows, &mut marks).number;
     if in_rows != 0 {
         return in_rows;
     }
@@ -73,11 +74,13 @@ fn last_tests(plan: Plan, rows: &[u64], s_words: &[u64], cells: &[u64]) -> u64
     requires { ⌜ rowsFault (settingOf plan .gates) (settingOf plan .own) (settingOf plan .trace) 0 (rowsOf (now rows)) ≡ 0 ⌝ }
     ensures { λ r. ⌜ ((t : List ℕ) → r ≡ lastTests (settingOf plan) (afterPieces (now (rows .entry)) (now («s_words» .entry)) (now (cells .entry)) t)) ⌝ }
 {
+    let gates = gate_rows(plan);
+    let own = gates.own;
     let mut used = [0; 128];
-    let count = mark_rows(0, rows, &mut used);
+    let tested = test_rows(gates.many, &own, plan.trace, 0, rows, &mut used);
     let state = Intake {
         plan: plan,
-        rows: count,
+        rows: tested.rows,
         s_words: s_words.len() as u64,
         cells: cells.len() as u64,
         tables: 0,

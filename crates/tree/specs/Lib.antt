@@ -6,3 +6,4 @@ pub mod Offers
 pub mod Layout
 pub mod Walks
 pub mod Placements
+pub mod PathsWorked

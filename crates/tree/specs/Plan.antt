@@ -1,6 +1,6 @@
 -- 01, 'When a call is turned down' and 'Gates and tree': what planning, the test for a made-up plan, paths and the table-id index answer, for any arguments.
 --
--- Main definitions: `planNumber`, `planned`, `planFault`, `pathAnswer`, `tableIdAnswer`.
+-- Main definitions: `planNumber`, `planned`, `planFault`, `pathAnswer`, `pathsAnswer`, `tableIdAnswer`.
 use Prim.Native.Nat.{_*_, ℕ}
 use lib.Dec.{eqb, leb, ltb}
 use lib.ListN.{drop, length, replicate, take}
@@ -8,6 +8,7 @@ use mathlib.Core.List.{List, [], _++_}
 use mathlib.Core.Option.{Option, none, some}
 use Rattle.base.specs.Firsts.{orNumber}
 use Rattle.base.specs.Pick.{pick}
+use Rattle.base.specs.Tables.{table}
 use Rattle.selector.specs.Gates.{gateWords}
 use Rattle.selector.specs.MadeUp.{mostLevels, nodesFit}
 use Rattle.selector.specs.Nodes.{treeAt}
@@ -22,6 +23,7 @@ use Rattle.parameters.specs.declared.lookup.LookupParameters.the-variants.{NoLo
 use Rattle.tree.specs.declared.nodes.Shape.{Shape}
 use Rattle.parameters.specs.declared.parameters.Parameters.{Parameters}
 use Rattle.tree.specs.declared.plan.Path.{Path}
+use Rattle.tree.specs.declared.plan.Paths.{Paths}
 use Rattle.tree.specs.declared.plan.Plan.{Plan}
 use Rattle.tree.specs.declared.plan.TableId.{TableId}
 use Rattle.tree.specs.declared.planning.Planned.{Planned}
@@ -144,6 +146,10 @@ pathAnswer p g =
     (record { number = 0; bits = bitsOf (planPath p g); length = length (planPath p g) })
     (record { number = 12; bits = 0; length = 0 }))
     (record { number = 19; bits = 0; length = 0 })
+
+-- the path of each gate, as asking for one gives it: 0 and 0 for a made-up plan and for a gate that is not listed
+unfoldable pub pathsAnswer : Plan → Paths
+pathsAnswer p = record { number = planFault p; bits = table mostGates (λ (g : ℕ). pathAnswer p g .bits); lengths = table mostGates (λ (g : ℕ). pathAnswer p g .length) }
 
 -- "Table-id column: mode 2 the lookup path's length, mode 4 K, else none"; 19 first
 unfoldable pub tableIdAnswer : Plan → TableId

@@ -1,7 +1,7 @@
 // Plans by value: the test for a made-up plan, paths and the table-id index.
 ghost use mathlib.Core.Path.{_≡_};
 ghost use Rattle.parameters.specs.Lookup.{flagOf};
-ghost use Rattle.tree.specs.Plan.{zeroPlan, parametersOf, planFault, pathAnswer, tableIdAnswer};
+ghost use Rattle.tree.specs.Plan.{zeroPlan, parametersOf, planFault, pathAnswer, pathsAnswer, tableIdAnswer};
 use crate::gates::GATE_WORDS;
 use crate::made_up::nodes_fit;
 use crate::paths::output_placement;
@@ -33,6 +33,13 @@ pub struct Path {
     pub number: u64,
     pub bits: u64,
     pub length: u64,
+}
+
+// A refusal number, or 0, and each gate's path as `Path` has it; 0 and 0 for a gate that is not listed.
+pub struct Paths {
+    pub number: u64,
+    pub bits: [u64; 128],
+    pub lengths: [u64; 128],
 }
 
 // A refusal number, or 0, and how many table-id columns there are, none or one, with its index.
@@ -155,6 +162,37 @@ impl Plan {
             number: 0,
             bits: found.bits,
             length: found.length,
+        }
+    }
+
+    // The paths of all gates, as `path` gives each, after one test of the plan.
+    pub fn paths(self) -> Paths
+        ensures { λ r. ⌜ r ≡ pathsAnswer self ⌝ }
+    {
+        let mut bits = [0; 128];
+        let mut lengths = [0; 128];
+        let number = self.fault();
+        if number != 0 {
+            return Paths {
+                number: number,
+                bits: bits,
+                lengths: lengths,
+            };
+        }
+        let nodes = self.nodes;
+        let count = self.node_count as usize;
+        let mut gate: u64 = 0;
+        while gate < self.gate_count {
+            let found = output_placement(&nodes, count, 0, gate, 32);
+            let at = gate as usize;
+            bits[at] = found.bits;
+            lengths[at] = found.length;
+            gate = gate + 1;
+        }
+        Paths {
+            number: 0,
+            bits: bits,
+            lengths: lengths,
         }
     }
 

@@ -13,9 +13,9 @@ use Rattle.tree.specs.Plan.{gatesGiven, planExtra}
 use Rattle.pieces.specs.Records.{rowsOf, tablesOf}
 use Rattle.pieces.specs.Rows.{rowsFault}
 use Rattle.pieces.specs.Tables.{tablesFault}
-use Rattle.pieces.specs.FaultLaws.{rows-own-same}
 use Rattle.columns.specs.Stacked.{stack}
 use Rattle.columns.specs.PlanLaws.{Sound, sound}
+use Rattle.columns.proofs.RowLoop.{gates-fault}
 use Rattle.columns.proofs.sections.pieces_fault.Statement.{statement}
 use Rattle.columns.proofs.sections.pieces_fault.Tie as tie
 
@@ -27,19 +27,17 @@ fine s =
     let l : length (s .args .plan .gates) ≡ 384 = search needs in
     sound (s .args .plan) (s .pre) (omega arith)
 
-rows-fault-requires : tie.Need-rows-fault-requires
-rows-fault-requires c κs =
-    let w = fine (c .before .before .before .before .before .before .before) in
-    (omega (arith, w .few-gates, c .before .before .gate-rows .ensures .many-is), omega arith, w .ranges .long)
+test-rows-requires : tie.Need-test-rows-requires
+test-rows-requires c κs =
+    let w = fine (c .before .before .before .before .before .before .before .before) in
+    (omega (arith, w .few-gates, c .before .before .before .gate-rows .ensures .many-is), omega arith, w .ranges .long)
 
 -- the rows' number: the gates' constants are the plan's
-in-rows : (c : tie.After-rows-fault) → let a = c .before .before .before .before .before .before .before .before .args in
-    c .rows-fault .result ≡ rowsFault (a .plan .«gate_count») (constantsOf (planExtra (a .plan)) (gatesGiven (a .plan))) (a .plan .trace) 0 (rowsOf (a .rows .now))
+in-rows : (c : tie.After-test-rows) → let a = c .before .before .before .before .before .before .before .before .before .args in
+    c .test-rows .result .number ≡ rowsFault (a .plan .«gate_count») (constantsOf (planExtra (a .plan)) (gatesGiven (a .plan))) (a .plan .trace) 0 (rowsOf (a .rows .now))
 in-rows c =
-    let a = c .before .before .before .before .before .before .before .before .args in
-    let g = c .before .before .before .gate-rows .ensures in
-    let e = rw (g .many-is) at (c .rows-fault .ensures) in
-    e ∙ rows-own-same (a .plan .«gate_count») _ (constantsOf (planExtra (a .plan)) (gatesGiven (a .plan))) (a .plan .trace) 0 (rowsOf (a .rows .now)) (g .own-is)
+    let a = c .before .before .before .before .before .before .before .before .before .args in
+    c .test-rows .ensures .0 ∙ gates-fault (a .plan) (c .before .before .before .before .gate-rows .result) (c .before .before .before .before .gate-rows .ensures) (a .plan .trace) 0 (rowsOf (a .rows .now))
 
 returns : tie.Need-returns
 returns c =
@@ -47,10 +45,10 @@ returns c =
     e ∙ sym (first-found _ _ (λ z. c .if1 .taken (e ∙ z)))
 
 mul-s-words-fault : tie.Need-mul-s-words-fault
-mul-s-words-fault c = let w = fine (c .before .before .before .before .before .before .before .before .before .before) in omega (arith, mul-le-mul (w .special) (w .ranges .long))
+mul-s-words-fault c = let w = fine (c .before .before .before .before .before .before .before .before .before .before .before) in omega (arith, mul-le-mul (w .special) (w .ranges .long))
 
 s-words-fault-requires : tie.Need-s-words-fault-requires
-s-words-fault-requires c κs = let w = fine (c .before .before .before .before .before .before .before .before .before .before) in (omega arith, omega (arith, mul-le-mul (w .special) (w .ranges .long)))
+s-words-fault-requires c κs = let w = fine (c .before .before .before .before .before .before .before .before .before .before .before) in (omega arith, omega (arith, mul-le-mul (w .special) (w .ranges .long)))
 
 returns-2 : tie.Need-returns-2
 returns-2 c =
@@ -58,10 +56,10 @@ returns-2 c =
     e ∙ sym (first-none _ _ (sym (in-rows (c .before .before .before .before)) ∙ c .before .before .before .if1 .left) ∙ first-found _ _ (λ z. c .if2 .taken (e ∙ z)))
 
 mul-cells-fault : tie.Need-mul-cells-fault
-mul-cells-fault c = let w = fine (c .before .before .before .before .before .before .before .before .before .before .before .before .before) in omega (arith, mul-le-mul (w .ranges .columns) (w .ranges .long))
+mul-cells-fault c = let w = fine (c .before .before .before .before .before .before .before .before .before .before .before .before .before .before) in omega (arith, mul-le-mul (w .ranges .columns) (w .ranges .long))
 
 cells-fault-requires : tie.Need-cells-fault-requires
-cells-fault-requires c κs = let w = fine (c .before .before .before .before .before .before .before .before .before .before .before .before .before) in (omega arith, omega (arith, mul-le-mul (w .ranges .columns) (w .ranges .long)), omega (arith, w .variables))
+cells-fault-requires c κs = let w = fine (c .before .before .before .before .before .before .before .before .before .before .before .before .before .before) in (omega arith, omega (arith, mul-le-mul (w .ranges .columns) (w .ranges .long)), omega (arith, w .variables))
 
 returns-3 : tie.Need-returns-3
 returns-3 c =
@@ -76,11 +74,11 @@ mode-requires c κs = search needs
 
 tables-fault-requires : tie.Need-tables-fault-requires
 tables-fault-requires c κs =
-    let w = fine (c .before .before .before .before .before .before .before .before .before .before .before .before .before .before .before .before .before) in
+    let w = fine (c .before .before .before .before .before .before .before .before .before .before .before .before .before .before .before .before .before .before) in
     (omega (arith, w .width, c .before .lookup-width .ensures), omega arith, omega arith, w .ranges .long)
 
 -- the tables' number: mode and width are the plan's
-in-tables : (c : tie.After-tables-fault) → let a = c .before .before .before .before .before .before .before .before .before .before .before .before .before .before .before .before .before .before .args in
+in-tables : (c : tie.After-tables-fault) → let a = c .before .before .before .before .before .before .before .before .before .before .before .before .before .before .before .before .before .before .before .args in
     c .tables-fault .result ≡ tablesFault (ltb 0 (modeOf (a .plan .lookup))) (widthOf (a .plan .lookup)) (a .plan .trace) (stack 0 0) (tablesOf (a .tables .now))
 in-tables c = c .tables-fault .ensures ∙ rw (c .before .mode .ensures, c .before .before .lookup-width .ensures)
 
@@ -94,7 +92,7 @@ pieces-fault-spec =
     tie.close
     (tie.spec
     gate-rows-requires
-    rows-fault-requires
+    test-rows-requires
     returns
     mul-s-words-fault
     s-words-fault-requires

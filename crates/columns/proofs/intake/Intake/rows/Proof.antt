@@ -6,18 +6,16 @@ use mathlib.Core.Bool.{true}
 use native.Mathlib.Omega.{arith}
 use native.Mathlib.Nat.{mul-le-mul}
 use Prim.Native.Nat.{ℕ, _*_, _≤_}
-use lib.ListN.{length, getD}
+use lib.ListN.{length}
 use Rattle.pieces.specs.Setting.{stands}
 use Rattle.pieces.specs.NumberLaws.{Stood, stood}
 use Rattle.columns.specs.Intake.{settingOf, stateOf}
 use Rattle.columns.specs.PlanLaws.{Sound, sound}
-use Rattle.selector.specs.Gates.{constantsOf}
-use Rattle.tree.specs.Plan.{gatesGiven, planExtra, planPath}
+use Rattle.tree.specs.Plan.{planPath}
 use Rattle.pieces.specs.Records.{rowsOf}
-use Rattle.pieces.specs.Rows.{rowsFault, rowsNumber, rowsWritten}
-use Rattle.pieces.specs.FaultLaws.{rows-own-same}
+use Rattle.pieces.specs.Rows.{rowsNumber, rowsWritten}
 use Rattle.columns.specs.IntakeLaws.{plan-fine, rows-19, rows-10, rows-own, rows-refused, rows-taken}
-use borrow.Author.Needs.{needs}
+use Rattle.columns.proofs.RowLoop.{gates-fault}
 use Rattle.columns.proofs.intake.Intake.rows.Statement.{statement}
 use Rattle.columns.proofs.intake.Intake.rows.Tie as tie
 
@@ -57,48 +55,26 @@ returns c =
 gate-rows-requires : tie.Need-gate-rows-requires
 gate-rows-requires c κs = plan-fine (c .before .before .before .before .before .before .before .before .args .self) (upright (c .before .before .before .before))
 
-rows-fault-requires : tie.Need-rows-fault-requires
-rows-fault-requires c κs =
-    let w = fine (c .before .before .before .before .before .before .before) in
-    (omega (arith, w .few-gates, c .before .before .gate-rows .ensures .many-is), counts (c .before .before .before .before .before .before .before) .rows-in, w .ranges .long)
+test-rows-requires : tie.Need-test-rows-requires
+test-rows-requires c κs =
+    let w = fine (c .before .before .before .before .before .before .before .before .before) in
+    (omega (arith, w .few-gates, c .before .before .before .before .gate-rows .ensures .many-is), counts (c .before .before .before .before .before .before .before .before .before) .rows-in, w .ranges .long)
 
--- the piece's number is its first faulty record's: the gates' constants are the plan's
-fault-is : (c : tie.After-rows-fault) → let s = c .before .before .before .before .before .before .before .before .before .before .before .before .args .self in
-    c .rows-fault .result ≡ rowsFault (s .plan .«gate_count») (constantsOf (planExtra (s .plan)) (gatesGiven (s .plan))) (s .plan .trace) (s .rows) (rowsOf (c .before .before .before .before .before .before .before .before .before .before .before .before .args .piece .now))
-fault-is c =
-    let s = c .before .before .before .before .before .before .before .before .before .before .before .before .args .self in
-    let g = c .before .before .before .gate-rows .ensures in
-    let e = rw (g .many-is) at (c .rows-fault .ensures) in
-    e ∙ rows-own-same (s .plan .«gate_count») _ (constantsOf (planExtra (s .plan)) (gatesGiven (s .plan))) (s .plan .trace) (s .rows) (rowsOf (c .before .before .before .before .before .before .before .before .before .before .before .before .args .piece .now)) (g .own-is)
-
-own : (c : tie.After-rows-fault) → let s = c .before .before .before .before .before .before .before .before .before .before .before .before .args .self in rowsNumber (settingOf (s .plan)) (stateOf s) (c .before .before .before .before .before .before .before .before .before .before .before .before .args .piece .now) (c .before .before .before .before .before .before .before .before .before .before .before .before .args .constants .now) ≡ c .rows-fault .result
+-- the piece's number is its first faulty record's
+own : (c : tie.After-test-rows) → let a = c .before .before .before .before .before .before .before .before .before .before .before .before .before .before .args in rowsNumber (settingOf (a .self .plan)) (stateOf (a .self)) (a .piece .now) (a .constants .now) ≡ c .test-rows .result .number
 own c =
-    let s = c .before .before .before .before .before .before .before .before .before .before .before .before .args .self in
-    rows-own s (c .before .before .before .before .before .before .before .before .before .before .before .before .args .piece .now) (c .before .before .before .before .before .before .before .before .before .before .before .before .args .constants .now) (upright (c .before .before .before .before .before .before .before .before)) (omega (arith, c .before .before .before .before .if2 .left, c .before .before .before .before .before .before .rooms-of .ensures .constants-are)) ∙ sym (fault-is c)
+    let a = c .before .before .before .before .before .before .before .before .before .before .before .before .before .before .args in
+    rows-own (a .self) (a .piece .now) (a .constants .now) (upright (c .before .before .before .before .before .before .before .before .before .before)) (omega (arith, c .before .before .before .before .before .before .if2 .left, c .before .before .before .before .before .before .before .before .rooms-of .ensures .constants-are))
+    ∙ sym (c .test-rows .ensures .0 ∙ gates-fault (a .self .plan) (c .before .before .before .before .before .gate-rows .result) (c .before .before .before .before .before .gate-rows .ensures) (a .self .plan .trace) (a .self .rows) (rowsOf (a .piece .now)))
 
 refused-requires-2 : tie.Need-refused-requires-2
 refused-requires-2 c κs = search needs
 
 returns-2 : tie.Need-returns-2
 returns-2 c =
-    let s = c .before .before .before .before .before .before .before .before .before .before .before .before .before .before .args .self in
-    let ws = c .before .before .before .before .before .before .before .before .before .before .before .before .before .before .args .piece .now in
-    let b = c .before .before .before .before .before .before .before .before .before .before .before .before .before .before .args .constants .now in
-    let k = rows-refused s ws b _ (own (c .before .before)) (c .before .if3 .taken) in
+    let a = c .before .before .before .before .before .before .before .before .before .before .before .before .before .before .before .before .before .args in
+    let k = rows-refused (a .self) (a .piece .now) (a .constants .now) _ (own (c .before .before .before)) (c .before .if3 .taken) in
     (c .refused2 .ensures ∙ k .0, k .1)
-
-mark-rows-requires : tie.Need-mark-rows-requires
-mark-rows-requires c κs =
-    let w = fine (c .before .before .before .before .before .before .before .before .before .before .before) in
-    let g = c .before .before .before .before .before .before .gate-rows in
-    record {
-      many = g .result .many;
-      own = λ k. getD (g .result .own) k 0;
-      trace = c .before .before .before .before .before .before .before .before .before .before .before .before .before .before .before .args .self .plan .trace;
-      few = omega (arith, w .few-gates, g .ensures .many-is);
-      long = w .ranges .long;
-      no-fault = sym (c .before .before .before .rows-fault .ensures) ∙ c .before .before .if3 .left;
-    }
 
 write-rows-requires : tie.Need-write-rows-requires
 write-rows-requires c κs =
@@ -107,7 +83,7 @@ write-rows-requires c κs =
     let g = c .before .before .before .before .before .before .before .before .gate-rows .ensures in
     let room : q .constants * q .trace ≤ length (c .before .before .before .before .before .before .before .before .before .before .before .before .before .before .before .before .before .args .constants .now) = omega (arith, c .before .before .before .before .before .before .before .before .before .if2 .left, c .before .before .before .before .before .before .before .before .before .before .before .rooms-of .ensures .constants-are) in (
       (w .ranges .long, omega (arith, w .height), omega (arith, w .few-gates, g .many-is), room),
-      (rw (g .many-is) (g .room), sym (c .before .before .before .before .before .rows-fault .ensures) ∙ c .before .before .before .before .if3 .left),
+      (rw (g .many-is) (g .room), sym (c .before .before .before .test-rows .ensures .0) ∙ c .before .if3 .left),
     )
 
 same-length : tie.Need-same-length
@@ -116,14 +92,13 @@ same-length c = search needs
 returns-3 : tie.Need-returns-3
 unfolding rowsWritten
 returns-3 c =
-    let s = c .before .before .before .before .before .before .before .before .before .before .before .before .before .before .before .before .before .before .before .before .args .self in
-    let ws = c .before .before .before .before .before .before .before .before .before .before .before .before .before .before .before .before .before .before .before .before .args .piece .now in
-    let b = c .before .before .before .before .before .before .before .before .before .before .before .before .before .before .before .before .before .before .before .before .args .constants .now in
-    let k = rows-taken s ws b (own (c .before .before .before .before .before .before .before .before) ∙ c .before .before .before .before .before .before .before .if3 .left) in
+    let a = c .before .before .before .before .before .before .before .before .before .before .before .before .before .before .before .before .before .before .before .before .args in
+    let z = c .before .before .before .before .if3 .left in
+    let k = rows-taken (a .self) (a .piece .now) (a .constants .now) (own (c .before .before .before .before .before .before) ∙ z) in
     let g = c .before .before .before .before .before .before .before .before .before .before .before .gate-rows .ensures in
     let w = c .before .before .write-rows .ensures in
-    let m = c .before .before .before .before .mark-rows .ensures in
-    (rw (m .0, m .1) (k .0), w (planPath (s .plan)) (rw (g .many-is) (g .spells-paths)) ∙ k .1)
+    let m = c .before .before .before .before .before .before .test-rows .ensures .1 z in
+    (rw (m .0, m .1) (k .0), w (planPath (a .self .plan)) (rw (g .many-is) (g .spells-paths)) ∙ k .1)
 
 refused-requires-3 : tie.Need-refused-requires-3
 refused-requires-3 c κs = search needs
@@ -145,10 +120,9 @@ rows-spec =
     refused-requires
     returns
     gate-rows-requires
-    rows-fault-requires
+    test-rows-requires
     refused-requires-2
     returns-2
-    mark-rows-requires
     write-rows-requires
     same-length
     returns-3
