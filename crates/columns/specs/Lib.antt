@@ -2,6 +2,7 @@
 pub mod Digits
 pub mod Placed
 pub mod Windows
+pub mod Lines
 pub mod Stacked
 pub mod TreeLaws
 pub mod PlanLaws

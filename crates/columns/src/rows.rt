@@ -12,8 +12,8 @@ ghost use Rattle.columns.specs.Windows.{putWindow};
 use crate::records::all_below;
 use crate::records::beyond;
 use crate::records::write_path;
+use crate::records::write_same;
 use crate::records::write_words;
-use crate::records::write_zeros;
 
 // The number of the record at the front of the words, 0 where it has no fault. `own` has the
 // number of constants of each of the `many` gates.
@@ -92,7 +92,8 @@ fn write_part(
         constants,
     );
     let filled = digits + given;
-    write_zeros(
+    write_same(
+        0,
         trace,
         at + filled as usize * trace,
         width - filled,

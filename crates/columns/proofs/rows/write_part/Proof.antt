@@ -73,7 +73,7 @@ under m k r e = omega arith
 two-of : (N i a b n len len₀ : ℕ) → n ≡ b → len ≡ len₀ → i + (a + b) * N < len₀ + N → i + a * N + n * N < len + N
 two-of N i a b n len len₀ e f r = rw (e, f) (omega (arith, r))
 
-rest-small : (w k : ℕ) → w ≤ 8 → w - k ≤ 64
+rest-small : (w k : ℕ) → w ≤ 8 → w - k ≤ 65536
 rest-small w k h = omega arith
 
 rest-of : (N i k w len len₀ : ℕ) → k ≤ w → len ≡ len₀ → i + w * N < len₀ + N → i + k * N + (w - k) * N < len + N
@@ -173,8 +173,8 @@ add-filled c =
     let s = c .before .before .before .before .before .before .before .before .before .before .before .before .before .before .before .before in
     fits-of _ 8 (omega (arith, k .filled, s .pre .2)) (omega arith)
 
-mul-write-zeros : tie.Need-mul-write-zeros
-mul-write-zeros c =
+mul-write-same : tie.Need-mul-write-same
+mul-write-same c =
     let k = cut (c .before .before .before .before .before) in
     let s = c .before .before .before .before .before .before .before .before .before .before .before .before .before .before .before .before in
     let a = s .args in
@@ -182,8 +182,8 @@ mul-write-zeros c =
     let g = a .width - d - c .before .before .before .before .before .beyond5 .result in
     omega (arith, small-of (a .trace) (d + g) (a .width) (k .filled) (s .pre .2) (s .pre .0))
 
-add-write-zeros : tie.Need-add-write-zeros
-add-write-zeros c =
+add-write-same : tie.Need-add-write-same
+add-write-same c =
     let k = cut (c .before .before .before .before .before) in
     let s = c .before .before .before .before .before .before .before .before .before .before .before .before .before .before .before .before in
     let a = s .args in
@@ -192,11 +192,11 @@ add-write-zeros c =
     let r = room-of (a .trace) (a .at) (d + g) (a .width) (length (a .constants .now)) (k .filled) (s .pre .3) in
     omega (arith, r, s .pre .0)
 
-sub-write-zeros : tie.Need-sub-write-zeros
-sub-write-zeros c = search needs
+sub-write-same : tie.Need-sub-write-same
+sub-write-same c = search needs
 
-write-zeros-requires : tie.Need-write-zeros-requires
-write-zeros-requires c κs =
+write-same-requires : tie.Need-write-same-requires
+write-same-requires c κs =
     let k = cut (c .before .before .before .before .before .before) in
     let s = c .before .before .before .before .before .before .before .before .before .before .before .before .before .before .before .before .before in
     let a = s .args in
@@ -231,7 +231,7 @@ returns c =
     let g = a .width - d - c .before .before .before .before .before .before .before .before .before .beyond5 .result in
     λ path w.
     line-by (a .low) (a .width) (a .trace) (a .at) (a .constants .now) _ _ _ path (a .words .now) (a .bits) (a .steps) d f g w k
-    (c .before .before .before .before .before .before .before .before .before .before .before .before .before .before .write-path .ensures) (c .before .before .before .before .before .before .write-words .ensures) (c .before .before .write-zeros .ensures)
+    (c .before .before .before .before .before .before .before .before .before .before .before .before .before .before .write-path .ensures) (c .before .before .before .before .before .before .write-words .ensures) (c .before .before .write-same .ensures)
 
 pub write-part-spec : {M : Type 1} → statement M
 write-part-spec =
@@ -258,9 +258,9 @@ write-part-spec =
     part-write-words-end
     write-words-requires
     add-filled
-    mul-write-zeros
-    add-write-zeros
-    sub-write-zeros
-    write-zeros-requires
+    mul-write-same
+    add-write-same
+    sub-write-same
+    write-same-requires
     same-length
     returns)
