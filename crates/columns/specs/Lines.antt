@@ -1,16 +1,17 @@
 -- Lines written column by column: those that stand in a list of words one after the other, and the column that they make.
 --
--- Main definitions: `strided`, `cutLines`, `columnOf`. Main statements: `lines-column` (one column after the columns before it), `cut-column` (a column of
--- lines in a list is every d-th word), `lines-padded`, and for the loop over a column `strided-turn`, `strided-done`.
+-- Main definitions: `strided`, `cutLines`, `columnOf`. Main statements: `lines-none`, `lines-column` (one column after the columns before it), `cut-column` (a
+-- column of lines in a list is every d-th word), `lines-padded` (only a line's first words are written), and for the loop over a column `strided-turn`, `strided-done`.
 use mathlib.Core.Path.{_≡_, refl, sym, ap, _∙_}
-use mathlib.Core.List.{List, [], _∷_, map}
+use mathlib.Core.Logic.{_≢_}
+use mathlib.Core.List.{List, [], _∷_, _++_, map}
 use Prim.Native.Nat.{ℕ, zero, suc, _+_, _-_, _*_, _≤_, _<_}
+use native.Mathlib.Numerals.{add-one}
 use native.Mathlib.Omega.{arith}
 use lib.ListN.{length, getD, set, drop}
-use lib.Seq.{drop-drop, getD-drop}
+use lib.Seq.{set-comm, drop-drop, getD-drop}
 use Rattle.pieces.specs.Writing.{put, padded, putLines}
-use Rattle.pieces.specs.WriteLaws.{padded-length, padded-all, padded-at}
-use Rattle.columns.specs.Windows.{putWindow, window-more}
+use Rattle.pieces.specs.WriteLaws.{padded-length, padded-all, padded-at, put-append, below-rows}
 
 -- every d-th word, n of them
 unfoldable pub strided : ℕ → ℕ → List ℕ → List ℕ
@@ -31,26 +32,51 @@ example : (cutLines 2 3 2 (1 ∷ 2 ∷ 9 ∷ 3 ∷ 4 ∷ 9 ∷ []) ≡ (1 ∷ 2 
 unfolding cutLines padded strided
 example = (refl, refl)
 
--- ---- a column's rows are consecutive places
-front-one : (l : List ℕ) → padded 1 l ≡ getD l 0 0 ∷ []
-unfolding padded
-front-one [] = refl
-front-one (w ∷ ws) = refl
-
-put-one : (N : ℕ) (b : List ℕ) (i c : ℕ) (l : List ℕ) → put N b i (padded 1 (drop c l)) ≡ set b i (getD l c 0)
+-- ---- words of other places may be written before or after
+put-set : (d : ℕ) (b : List ℕ) (i : ℕ) (ws : List ℕ) (j y : ℕ) → ((c : ℕ) → c < length ws → j ≢ i + c * d) → put d (set b j y) i ws ≡ set (put d b i ws) j y
 unfolding put
-put-one N b i c l = let z : c + 0 ≡ c = omega arith in ap (put N b i) (front-one (drop c l)) ∙ ap (set b i) (rw z at (getD-drop c l 0 0))
+put-set d b i [] j y h = refl
+put-set d b i (w ∷ ws) j y h =
+    let n : j ≢ i = λ e. h 0 (omega arith) (omega arith) in
+    ap (λ (l : List ℕ). put d l (i + d) ws) (set-comm b j i y w n) ∙ put-set d (set b i w) (i + d) ws j y (λ c q e. h (suc c) (omega arith) (omega arith))
 
-window-column : (c N r : ℕ) (ls : List (List ℕ)) (b : List ℕ) → putWindow c 1 N r ls b ≡ put 1 b (r + c * N) (columnOf c ls)
-unfolding putWindow put
-window-column c N r [] b = refl
-window-column c N r (l ∷ ls) b =
+lines-set : (k N r : ℕ) (ls : List (List ℕ)) (b : List ℕ) (j y : ℕ) → k * N ≤ j → r + length ls ≤ N → putLines k N r ls (set b j y) ≡ set (putLines k N r ls b) j y
+unfolding putLines
+lines-set k N r [] b j y h room = refl
+lines-set k N r (l ∷ ls) b j y h room =
+    ap (putLines k N (suc r) ls) (put-set N b r (padded k l) j y (λ c q e. omega (arith, e, below-rows N c r k (omega arith) (rw padded-length at q))))
+    ∙ lines-set k N (suc r) ls (put N b r (padded k l)) j y h (omega arith)
+
+-- ---- one column after the columns before it: its rows are consecutive places
+padded-next : (c : ℕ) (l : List ℕ) → padded (suc c) l ≡ padded c l ++ (getD l c 0 ∷ [])
+unfolding padded
+padded-next zero [] = refl
+padded-next zero (w ∷ ws) = refl
+padded-next (suc c) [] = ap (λ (l : List ℕ). 0 ∷ l) (padded-next c [])
+padded-next (suc c) (w ∷ ws) = ap (λ (l : List ℕ). w ∷ l) (padded-next c ws)
+
+line-column : (c N r : ℕ) (b l : List ℕ) → put N b r (padded (suc c) l) ≡ set (put N b r (padded c l)) (r + c * N) (getD l c 0)
+unfolding put
+line-column c N r b l =
+    ap (put N b r) (padded-next c l) ∙ put-append N b r (padded c l) (getD l c 0 ∷ [])
+    ∙ ap (λ (k : ℕ). set (put N b r (padded c l)) (r + k * N) (getD l c 0)) (padded-length c l)
+
+column-next : (c N r : ℕ) (ls : List (List ℕ)) (b : List ℕ) → length ls ≤ N - r → putLines (suc c) N r ls b ≡ put 1 (putLines c N r ls b) (r + c * N) (columnOf c ls)
+unfolding putLines put
+column-next c N r [] b h = refl
+column-next c N r (l ∷ ls) b h =
     let z : suc r + c * N ≡ r + c * N + 1 = omega arith in
-    ap (putWindow c 1 N (suc r) ls) (put-one N b (r + c * N) c l) ∙ window-column c N (suc r) ls (set b (r + c * N) (getD l c 0))
-    ∙ ap (λ (i : ℕ). put 1 (set b (r + c * N) (getD l c 0)) i (columnOf c ls)) z
+    let B = put N b r (padded c l) in
+    column-next c N (suc r) ls (put N b r (padded (suc c) l)) (omega arith)
+    ∙ rw (line-column c N r b l, lines-set c N (suc r) ls B (r + c * N) (getD l c 0) (omega arith) (omega arith), z)
+
+pub lines-none : (N r : ℕ) (ls : List (List ℕ)) (b : List ℕ) → putLines 0 N r ls b ≡ b
+unfolding putLines put padded
+lines-none N r [] b = refl
+lines-none N r (l ∷ ls) b = lines-none N (suc r) ls b
 
 pub lines-column : (c N r : ℕ) (ls : List (List ℕ)) (b : List ℕ) → length ls ≤ N - r → putLines (c + 1) N r ls b ≡ put 1 (putLines c N r ls b) (r + c * N) (columnOf c ls)
-lines-column c N r ls b h = window-more c 1 N r ls b h ∙ window-column c N r ls (putLines c N r ls b)
+lines-column c N r ls b h = rw add-one (column-next c N r ls b h)
 
 -- ---- lines in a list of words
 pub cut-many : (w d n : ℕ) (ws : List ℕ) → length (cutLines w d n ws) ≡ n
@@ -68,7 +94,6 @@ cut-column w d (suc n) ws c h =
     let y : drop c (drop d ws) ≡ drop d (drop c ws) = drop-drop c d ws ∙ ap (λ (k : ℕ). drop k ws) (sym s) ∙ sym (drop-drop d c ws) in
     rw (padded-at w ws c h, cut-column w d n (drop d ws) c h, x, y)
 
--- only their first words are written
 pub lines-padded : (k N r : ℕ) (ls : List (List ℕ)) (b : List ℕ) → putLines k N r ls b ≡ putLines k N r (map (padded k) ls) b
 unfolding putLines
 lines-padded k N r [] b = refl

@@ -1,12 +1,11 @@
 // What rows and tables have in common: words below p, and lines across columns.
 ghost use mathlib.Core.Path.{_≡_};
 ghost use mathlib.Core.List.{List};
-ghost use Prim.Native.Nat.{ℕ, _+_, _-_, _*_, _<_, _≤_};
+ghost use Prim.Native.Nat.{ℕ, _+_, _*_, _<_, _≤_};
 ghost use lib.ListN.{length, take, drop, replicate};
 ghost use Rattle.field.specs.Field.{p};
 ghost use Rattle.pieces.specs.Records.{allBelow};
 ghost use Rattle.pieces.specs.Writing.{put, putLines};
-ghost use Rattle.selector.specs.Paths.{bitsOf};
 ghost use Rattle.columns.specs.Digits.{Left};
 ghost use Rattle.columns.specs.Lines.{strided, cutLines};
 
@@ -36,16 +35,6 @@ pub(crate) fn write_words(step: usize, at: usize, words: &[u64], buffer: &mut [u
         place = place + step;
         i = i + 1;
     }
-}
-
-// How far a number goes beyond another, 0 where it does not.
-pub(crate) fn beyond(a: u64, b: u64) -> u64
-    ensures { λ r. ⌜ r ≡ a - b ⌝ }
-{
-    if a < b {
-        return 0;
-    }
-    a - b
 }
 
 // The first digits of a path in the same way, the step from the root first.

@@ -8,8 +8,7 @@ use native.Mathlib.Omega.{arith}
 use Prim.Native.Nat.{ℕ, _+_, _-_, _*_, _<_, _≤_}
 use lib.ListN.{length, drop}
 use Rattle.pieces.specs.Writing.{put, putLines}
-use Rattle.columns.specs.Windows.{window-none}
-use Rattle.columns.specs.Lines.{strided, cutLines, columnOf, lines-column, cut-many, cut-column}
+use Rattle.columns.specs.Lines.{strided, cutLines, columnOf, lines-none, lines-column, cut-many, cut-column}
 use Rattle.columns.proofs.records.write_lines.Statement.{statement}
 use Rattle.columns.proofs.records.write_lines.Tie as tie
 
@@ -42,7 +41,7 @@ abbrev μ-loop : tie.MeasureT-loop
 loop-holds : tie.Need-loop-holds Inv-loop μ-loop
 loop-holds c =
     let a = c .before .before .args in
-    record { within = omega arith; place = omega arith; long = refl; lines = sym (window-none (a .trace) (a .row) (cutLines (a .width) (a .step) (a .many) (a .words .now)) (a .buffer .now)) }
+    record { within = omega arith; place = omega arith; long = refl; lines = sym (lines-none (a .trace) (a .row) (cutLines (a .width) (a .step) (a .many) (a .words .now)) (a .buffer .now)) }
 
 -- the column's rows are in the buffer
 column-in : (width trace row many column at len len₀ : ℕ) → column < width → row + many ≤ trace → width * trace ≤ len₀ → at ≡ row + column * trace → len ≡ len₀ → at + many ≤ len
