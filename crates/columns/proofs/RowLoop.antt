@@ -1,25 +1,21 @@
 -- The loops over the records of a rows piece: the records that are left, from the present row on, give what the whole piece gives. Assumes nothing.
 use mathlib.Core.Path.{_≡_, refl, sym, ap, _∙_}
 use mathlib.Core.Logic.{_≢_}
-use mathlib.Core.List.{List, [], _∷_, _++_}
-use Prim.Native.Nat.{ℕ, suc, _+_, _-_, _*_, _≤_, _<_}
+use mathlib.Core.List.{List, [], _∷_}
+use Prim.Native.Nat.{ℕ, suc, _+_, _-_, _≤_, _<_}
 use native.Mathlib.Numerals.{add-one}
 use native.Mathlib.Omega.{arith}
 use lib.ListN.{length, getD, set, take, drop}
 use Rattle.pieces.specs.Records.{Read, whole, cut, rowSize, rowsOf}
-use Rattle.pieces.specs.Writing.{put, padded, putLines}
-use Rattle.pieces.specs.Rows.{rowFault, rowsFault, rowLines, marked}
+use Rattle.pieces.specs.Rows.{rowFault, rowsFault, marked}
 use Rattle.pieces.specs.RecordLaws.{Rest, rest-begin, rest-done, rest-whole, fault-head, going}
-use Rattle.pieces.specs.FaultLaws.{RowFine, row-cut, row-fine, rows-room, rows-own-same}
-use Rattle.pieces.specs.ClosedForms.{lines-many}
+use Rattle.pieces.specs.FaultLaws.{RowFine, row-cut, row-fine, rows-own-same}
 use Rattle.pieces.specs.LineLaws.{marks-turn, marks-done}
 use Rattle.selector.specs.Gates.{constantsOf}
 use Rattle.tree.specs.Plan.{gatesGiven, planExtra}
 use Rattle.tree.specs.declared.plan.Plan.{Plan}
-use Rattle.columns.specs.Digits.{Spelled}
-use Rattle.columns.specs.Placed.{Spells, GatesOf}
+use Rattle.columns.specs.Placed.{GatesOf}
 use Rattle.columns.specs.declared.rows.GateRows.{GateRows}
-use Rattle.columns.specs.Windows.{putWindow, window-turn, window-done, window-none, window-more}
 
 module _ (count : ℕ) (piece : List ℕ) where
   -- the records that are left; gates, constants and trace are whatever the piece has no fault with
@@ -99,77 +95,6 @@ module _ (count : ℕ) (piece used₀ : List ℕ) where
 
     pub marking-marks : length piece ≤ i → used ≡ marked used₀ (rowsOf piece)
     marking-marks h = sym (w .marks ∙ ap (marked used) (counting-none count piece row i (w .at) h) ∙ marks-done used)
-
--- rows without a fault end within the trace
-lines-left : (many : ℕ) (own : ℕ → ℕ) (path : ℕ → List ℕ) (N r : ℕ) (ts : List Read) → rowsFault many own N r ts ≡ 0 → length (rowLines path ts) ≤ N - r
-lines-left many own path N r [] e = omega (arith, lines-many path [])
-lines-left many own path N r (cut ∷ ts) e = absurd (omega (arith, fault-head (rowFault many own N) (λ r _. suc r) r cut ts e .0, row-cut many own N r))
-lines-left many own path N r (whole g n cs ∷ ts) e =
-    let f = fault-head (rowFault many own N) (λ r _. suc r) r (whole g n cs) ts e in
-    let h = row-fine many own N r g n cs (f .0) .room in
-    omega (arith, lines-many path (whole g n cs ∷ ts), rows-room many own N r (whole g n cs ∷ ts) (omega (arith, h)) e)
-
--- ---- writing the rows' words in the w columns from column `low` on
-module _ (low w trace count : ℕ) (piece constants₀ bits steps : List ℕ) where
-  pub record Writing (constants : List ℕ) (row i : ℕ) : Type 0 where
-    pub at : Counting count piece row i
-    pub long : length constants ≡ length constants₀
-    pub lines : (many : ℕ) (own : ℕ → ℕ) (path : ℕ → List ℕ) → rowsFault many own trace count (rowsOf piece) ≡ 0 → Spells many path bits steps
-        → putWindow low w trace count (rowLines path (rowsOf piece)) constants₀ ≡ putWindow low w trace row (rowLines path (at .left)) constants
-
-  pub writing-begin : Writing constants₀ count 0
-  unfolding counting-begin rowsOf
-  writing-begin = record { at = counting-begin count piece; long = refl; lines = λ many own path e s. refl }
-
-  module _ (constants : List ℕ) (row i : ℕ) (v : Writing constants row i) where
-    pub writing-next : (two : i + 1 < length piece) (fits : getD piece (i + 1) 0 ≤ length piece - (i + 2)) → (constants' : List ℕ) → length constants' ≡ length constants
-        → ((path : List ℕ) → Spelled path (getD bits (getD piece i 0) 0) (getD steps (getD piece i 0) 0)
-        → constants' ≡ put trace constants (row + low * trace) (padded w (drop low (path ++ take (getD piece (i + 1) 0) (drop (i + 2) piece)))))
-        → Writing constants' (row + 1) (i + 2 + getD piece (i + 1) 0)
-    writing-next two fits constants' long' wrote =
-        let split = counting-split count piece row i (v .at) two fits in
-        let later = counting-next count piece row i (v .at) two fits .left in
-        let g = getD piece i 0 in
-        let k = getD piece (i + 1) 0 in
-        let cs = take k (drop (i + 2) piece) in
-        record {
-          at = counting-next count piece row i (v .at) two fits;
-          long = long' ∙ v .long;
-          lines = λ many own path e s.
-              (let known = counting-front count piece row i (v .at) many own trace e (omega arith) .is .known in
-              v .lines many own path e s ∙ ap (λ (l : List Read). putWindow low w trace row (rowLines path l) constants) split
-              ∙ window-turn path low w trace row g k cs later constants
-              ∙ ap (putWindow low w trace (row + 1) (rowLines path later)) (sym (wrote (path g) (s .spells g known))));
-        }
-
-    pub writing-lines : length piece ≤ i → (many : ℕ) (own : ℕ → ℕ) (path : ℕ → List ℕ) → rowsFault many own trace count (rowsOf piece) ≡ 0 → Spells many path bits steps
-        → constants ≡ putWindow low w trace count (rowLines path (rowsOf piece)) constants₀
-    writing-lines h many own path e s =
-        sym (v .lines many own path e s ∙ ap (λ (l : List Read). putWindow low w trace row (rowLines path l) constants) (counting-none count piece row i (v .at) h) ∙ window-done path low w trace row constants)
-
--- ---- window by window: the columns below `low` are written
-module _ (trace count : ℕ) (piece constants₀ bits steps : List ℕ) where
-  pub record Windows (height : ℕ) (constants : List ℕ) (low : ℕ) : Type 0 where
-    pub below : low ≤ height
-    pub long : length constants ≡ length constants₀
-    pub lines : (many : ℕ) (own : ℕ → ℕ) (path : ℕ → List ℕ) → rowsFault many own trace count (rowsOf piece) ≡ 0 → Spells many path bits steps
-        → constants ≡ putLines low trace count (rowLines path (rowsOf piece)) constants₀
-
-  pub windows-begin : (height : ℕ) → Windows height constants₀ 0
-  windows-begin height = record { below = omega arith; long = refl; lines = λ many own path e s. sym (window-none trace count (rowLines path (rowsOf piece)) constants₀) }
-
-  pub windows-next : (height : ℕ) (constants : List ℕ) (low w : ℕ) → Windows height constants low → low + w ≤ height → (constants' : List ℕ) → length constants' ≡ length constants
-      → ((many : ℕ) (own : ℕ → ℕ) (path : ℕ → List ℕ) → rowsFault many own trace count (rowsOf piece) ≡ 0 → Spells many path bits steps
-      → constants' ≡ putWindow low w trace count (rowLines path (rowsOf piece)) constants)
-      → Windows height constants' (low + w)
-  windows-next height constants low w v h constants' long' wrote =
-      record {
-        below = h;
-        long = long' ∙ v .long;
-        lines = λ many own path e s.
-            wrote many own path e s ∙ ap (putWindow low w trace count (rowLines path (rowsOf piece))) (v .lines many own path e s)
-            ∙ sym (window-more low w trace count (rowLines path (rowsOf piece)) constants₀ (lines-left many own path trace count (rowsOf piece) e));
-      }
 
 -- ---- the gates' constants are the plan's, so that the test of rows is the plan's
 pub gates-fault : (q : Plan) (r : GateRows) → GatesOf q r → (N count : ℕ) (ts : List Read)

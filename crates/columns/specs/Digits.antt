@@ -1,15 +1,12 @@
 -- A path as the tree layer hands it out, bits and a length, and as the columns write it, digit by digit.
 --
--- Main definitions: `Spelled`, `Left`. Main statements: `left-begin`, `left-turn`, for the loop that writes the digits; `left-shift`.
-use mathlib.Core.Path.{_≡_, sym, ap, _∙_}
-use mathlib.Core.List.{List, [], _∷_}
-use Prim.Native.Nat.{ℕ, zero, suc, _+_, _*_, _/_, _%_, _^_, _<_}
-use native.Mathlib.Nat.{pow-suc, div-div-eq-div-mul}
-use native.Mathlib.Numerals.{add-one}
-use native.Mathlib.Decide.{decLt}
+-- Main definitions: `Spelled`, `Left`. Main statements: `left-begin`, `left-turn`, for the loop that writes the digits.
+use mathlib.Core.Path.{_≡_, ap, _∙_}
+use mathlib.Core.List.{List, _∷_}
+use Prim.Native.Nat.{ℕ, _+_, _*_, _/_, _%_, _<_}
 use native.Mathlib.Omega.{arith}
 use lib.ListN.{length, getD, drop}
-use Rattle.base.specs.Drops.{drop-none, drop-one}
+use Rattle.base.specs.Drops.{drop-one}
 use Rattle.pieces.specs.RecordLaws.{Each}
 use Rattle.selector.specs.Paths.{bitsOf}
 
@@ -42,22 +39,3 @@ pub left-turn : (path : List ℕ) (rest i : ℕ) → i < length path → Left pa
 left-turn path rest i h l =
     let s = left-step path rest i (getD path i 0) (drop (i + 1) path) (drop-one path i h) l in
     (s .0, record { bits-left = s .1; digits-left = s .2 })
-
--- the same past the end, where no digit and no bit is left
-left-on : (path : List ℕ) (rest i : ℕ) → Left path rest i → Left path (rest / 2) (suc i)
-unfolding bitsOf
-left-on path rest i l = go (decLt i (length path))
-  where
-    go : Dec (i < length path) → Left path (rest / 2) (suc i)
-    go (yes h) = rw add-one at (left-turn path rest i h l .1)
-    go (no h) =
-        let z : rest ≡ 0 = l .bits-left ∙ ap bitsOf (drop-none path i (omega arith)) in
-        let e = drop-none path (suc i) (omega arith) in
-        record { bits-left = rw e (omega (arith, z)); digits-left = rw e tt }
-
--- the digits from i on are the word shifted by i
-pub left-shift : (path : List ℕ) (bits steps : ℕ) → Spelled path bits steps → (i : ℕ) → Left path (bits / 2 ^ i) i
-left-shift path bits steps s zero = let z : bits / 1 ≡ bits = omega arith in rw z (left-begin path bits steps s)
-left-shift path bits steps s (suc i) =
-    let e : bits / 2 ^ suc i ≡ bits / 2 ^ i / 2 = ap (λ (k : ℕ). bits / k) (pow-suc 2 i) ∙ sym (div-div-eq-div-mul bits (2 ^ i) 2) in
-    rw e (left-on path (bits / 2 ^ i) i (left-shift path bits steps s i))

@@ -1,7 +1,7 @@
 -- 01, 'Columns by pieces': what the code's types mean in the definitions of `pieces`.
 pub mod Digits
+pub mod Lines
 pub mod Placed
-pub mod Windows
 pub mod Stacked
 pub mod TreeLaws
 pub mod PlanLaws

@@ -1,16 +1,18 @@
 -- What the rows of a call need of the gates: path and number of constants of each, as lists by the gate's place.
 --
--- Main definitions: `Spells`, `Fits`, `FaultlessIn`, `GatesOf`.
+-- Main definitions: `Spells`, `Fits`, `Stageable`, `Stages`, `GatesOf`.
 use mathlib.Core.Path.{_≡_}
-use mathlib.Core.List.{List}
+use mathlib.Core.List.{List, _++_, map}
 use Prim.Native.Nat.{ℕ, _+_, _≤_, _<_}
-use lib.ListN.{getD}
+use lib.ListN.{length, getD, drop}
 use Rattle.selector.specs.Gates.{constantsOf}
 use Rattle.tree.specs.Plan.{gatesGiven, planExtra, planPath}
 use Rattle.tree.specs.declared.plan.Plan.{Plan}
-use Rattle.pieces.specs.Records.{rowsOf}
-use Rattle.pieces.specs.Rows.{rowsFault}
+use Rattle.pieces.specs.Records.{Read, rowsOf}
+use Rattle.pieces.specs.Rows.{rowsFault, rowLines}
+use Rattle.pieces.specs.Writing.{padded}
 use Rattle.columns.specs.Digits.{Spelled}
+use Rattle.columns.specs.Lines.{cutLines}
 use Rattle.columns.specs.declared.rows.GateRows.{GateRows}
 
 -- the words `bits` and `steps` spell the paths of `many` gates
@@ -22,12 +24,27 @@ pub record Fits (many height : ℕ) (own steps : List ℕ) : Type 0 where
   pub short : (g : ℕ) → g < many → getD steps g 0 ≤ 32
   pub fits : (g : ℕ) → g < many → getD steps g 0 + getD own g 0 ≤ height
 
--- rows that some gates, at most 128 of them, have no fault with, from the row `count` on
-pub record FaultlessIn (trace count : ℕ) (piece : List ℕ) : Type 0 where
+-- rows that some gates have no fault with, whose paths leave room for their constants
+pub record Stageable (height : ℕ) (steps piece : List ℕ) : Type 0 where
   pub many : ℕ
-  pub own : ℕ → ℕ
+  pub own : List ℕ
+  pub trace : ℕ
+  pub count : ℕ
   pub few : many ≤ 128
-  pub no-fault : rowsFault many own trace count (rowsOf piece) ≡ 0
+  pub room : Fits many height own steps
+  pub no-fault : rowsFault many (λ (g : ℕ). getD own g 0) trace count (rowsOf piece) ≡ 0
+
+-- the first records of a piece, `next` words in all, are the first `rows` lines of the stage, 64 words apart
+pub record Stages (height : ℕ) (bits steps piece stage : List ℕ) (next rows : ℕ) : Type 0 where
+  pub within : next ≤ length piece
+  pub few : rows ≤ 16
+  pub some : 0 < length piece → (0 < next) × (0 < rows)
+  pub read : List Read
+  pub split : rowsOf piece ≡ read ++ rowsOf (drop next piece)
+  pub rows-are : length read ≡ rows
+  pub long : length stage ≡ 1024
+  pub lines : (many : ℕ) (own : ℕ → ℕ) (trace count : ℕ) (path : ℕ → List ℕ) → rowsFault many own trace count (rowsOf piece) ≡ 0 → Spells many path bits steps
+      → cutLines height 64 rows stage ≡ map (padded height) (rowLines path read)
 
 -- the gates of a sound plan
 pub record GatesOf (q : Plan) (r : GateRows) : Type 0 where

@@ -1,13 +1,13 @@
 // What rows and tables have in common: words below p, and lines across columns.
 ghost use mathlib.Core.Path.{_≡_};
 ghost use mathlib.Core.List.{List};
-ghost use Prim.Native.Nat.{ℕ, _+_, _-_, _*_, _<_, _≤_};
-ghost use lib.ListN.{length, take, replicate};
+ghost use Prim.Native.Nat.{ℕ, _+_, _*_, _<_, _≤_};
+ghost use lib.ListN.{length, take, drop, replicate};
 ghost use Rattle.field.specs.Field.{p};
 ghost use Rattle.pieces.specs.Records.{allBelow};
-ghost use Rattle.pieces.specs.Writing.{put};
-ghost use Rattle.selector.specs.Paths.{bitsOf};
+ghost use Rattle.pieces.specs.Writing.{put, putLines};
 ghost use Rattle.columns.specs.Digits.{Left};
+ghost use Rattle.columns.specs.Lines.{strided, cutLines};
 
 // Whether every word is below p.
 pub(crate) fn all_below(words: &[u64]) -> bool
@@ -37,16 +37,6 @@ pub(crate) fn write_words(step: usize, at: usize, words: &[u64], buffer: &mut [u
     }
 }
 
-// How far a number goes beyond another, 0 where it does not.
-pub(crate) fn beyond(a: u64, b: u64) -> u64
-    ensures { λ r. ⌜ r ≡ a - b ⌝ }
-{
-    if a < b {
-        return 0;
-    }
-    a - b
-}
-
 // The first digits of a path in the same way, the step from the root first.
 pub(crate) fn write_path(step: usize, at: usize, bits: u64, many: u64, buffer: &mut [u64])
     requires { ⌜ (step ≤ 65536) × (many ≤ 64) × (at + many * step < length (now buffer) + step) ⌝ }
@@ -63,16 +53,63 @@ pub(crate) fn write_path(step: usize, at: usize, bits: u64, many: u64, buffer: &
     }
 }
 
-// As many zeros.
-pub(crate) fn write_zeros(step: usize, at: usize, many: u64, buffer: &mut [u64])
-    requires { ⌜ (step ≤ 65536) × (many ≤ 64) × (at + many * step < length (now buffer) + step) ⌝ }
-    ensures { λ _. ⌜ now (buffer .exit) ≡ put step (now (buffer .entry)) at (replicate many 0) ⌝ }
+// The same word as often.
+pub(crate) fn write_same(word: u64, step: usize, at: usize, many: u64, buffer: &mut [u64])
+    requires { ⌜ (step ≤ 65536) × (many ≤ 65536) × (at + many * step < length (now buffer) + step) ⌝ }
+    ensures { λ _. ⌜ now (buffer .exit) ≡ put step (now (buffer .entry)) at (replicate many word) ⌝ }
 {
     let mut place = at;
     let mut i: u64 = 0;
     while i < many {
-        buffer[place] = 0;
+        buffer[place] = word;
         place = place + step;
         i = i + 1;
+    }
+}
+
+// Every `step`-th of the words, from place `from` on, at consecutive places of the buffer from `at`
+// on: a part of a column.
+pub(crate) fn write_column(
+    step: usize,
+    from: usize,
+    at: usize,
+    many: usize,
+    words: &[u64],
+    buffer: &mut [u64],
+)
+    requires { ⌜ (step ≤ 64) × (from + many * step < length (now words) + step) × (at + many ≤ length (now buffer)) ⌝ }
+    ensures { λ _. ⌜ now (buffer .exit) ≡ put 1 (now (buffer .entry)) at (strided step many (drop from (now (words .entry)))) ⌝ }
+{
+    let mut place = from;
+    let mut i = 0;
+    while i < many {
+        buffer[at + i] = words[place];
+        place = place + step;
+        i = i + 1;
+    }
+}
+
+// Lines that stand in the words one after the other, `step` words apart, in the rows from `row` on:
+// the first `width` words of each. The columns lie a power of two apart, so that the words of a row
+// share one set of the cache: they are written column by column.
+pub(crate) fn write_lines(
+    width: usize,
+    step: usize,
+    trace: usize,
+    row: usize,
+    many: usize,
+    words: &[u64],
+    buffer: &mut [u64],
+)
+    requires { ⌜ (width ≤ step) × (step ≤ 64) × (trace ≤ 65536) × (row + many ≤ trace) ⌝ }
+    requires { ⌜ (step * many ≤ length (now words)) × (width * trace ≤ length (now buffer)) ⌝ }
+    ensures { λ _. ⌜ now (buffer .exit) ≡ putLines width trace row (cutLines width step many (now (words .entry))) (now (buffer .entry)) ⌝ }
+{
+    let mut at = row;
+    let mut column = 0;
+    while column < width {
+        write_column(step, column, at, many, words, buffer);
+        at = at + trace;
+        column = column + 1;
     }
 }

@@ -2,18 +2,17 @@
 ghost use mathlib.Core.Path.{_≡_};
 ghost use mathlib.Core.List.{List, _++_};
 ghost use Prim.Native.Nat.{ℕ, _+_, _*_, _<_, _≤_};
-ghost use lib.ListN.{length, getD, drop};
+ghost use lib.ListN.{length, getD};
 ghost use Rattle.pieces.specs.Records.{rowSize, front, rowsOf};
 ghost use Rattle.pieces.specs.Writing.{put, padded, putLines};
 ghost use Rattle.pieces.specs.Rows.{rowFault, rowsFault, rowLines, marked};
 ghost use Rattle.columns.specs.Digits.{Spelled};
-ghost use Rattle.columns.specs.Placed.{Spells, Fits, FaultlessIn};
-ghost use Rattle.columns.specs.Windows.{putWindow};
+ghost use Rattle.columns.specs.Placed.{Spells, Fits, Stageable, Stages};
 use crate::records::all_below;
-use crate::records::beyond;
+use crate::records::write_lines;
 use crate::records::write_path;
+use crate::records::write_same;
 use crate::records::write_words;
-use crate::records::write_zeros;
 
 // The number of the record at the front of the words, 0 where it has no fault. `own` has the
 // number of constants of each of the `many` gates.
@@ -88,42 +87,6 @@ pub(crate) fn test_rows(
     }
 }
 
-// One row's words in the `width` columns from column `low` on, the first of them at place `at`: the
-// path's digits, the constants, then zeros, as far as they fall into these columns.
-fn write_part(
-    low: u64,
-    width: u64,
-    trace: usize,
-    at: usize,
-    bits: u64,
-    steps: u64,
-    words: &[u64],
-    constants: &mut [u64],
-)
-    requires { ⌜ (trace ≤ 65536) × (low < 64) × (width ≤ 8) × (at + width * trace < length (now constants) + trace) ⌝ }
-    ensures { λ _. ⌜ ((path : List ℕ) → Spelled path bits steps → now (constants .exit) ≡ put trace (now (constants .entry)) at (padded width (drop low (path ++ now (words .entry))))) ⌝ }
-{
-    let digits = width - beyond(width, beyond(steps, low));
-    write_path(trace, at, bits >> low, digits, constants);
-    let many = words.len() as u64;
-    let start = many - beyond(many, beyond(low, steps));
-    let room = width - digits;
-    let given = room - beyond(room, many - start);
-    write_words(
-        trace,
-        at + digits as usize * trace,
-        &words[start as usize..(start + given) as usize],
-        constants,
-    );
-    let filled = digits + given;
-    write_zeros(
-        trace,
-        at + filled as usize * trace,
-        width - filled,
-        constants,
-    );
-}
-
 // The path and the number of constants of each gate, as the rows of a call need them.
 pub struct GateRows {
     pub many: u64,
@@ -132,47 +95,68 @@ pub struct GateRows {
     pub own: [u64; 128],
 }
 
-// The records of a piece without a fault, in the rows from `count` on: their words in the `width`
-// columns from column `low` on.
-fn write_window(
-    low: u64,
-    width: u64,
-    trace: u64,
-    count: u64,
+// One row's words at place `at` of the stage: the path's digits, the constants, then zeros.
+fn stage_line(at: usize, height: u64, bits: u64, steps: u64, words: &[u64], stage: &mut [u64; 1024])
+    requires { ⌜ (height ≤ 64) × (at + height ≤ 1024) × (steps + length (now words) ≤ height) × (length (now stage) ≡ 1024) ⌝ }
+    ensures { λ _. ⌜ ((path : List ℕ) → Spelled path bits steps → now (stage .exit) ≡ put 1 (now (stage .entry)) at (padded height (path ++ now (words .entry)))) ⌝ }
+    ensures { λ _. ⌜ length (now (stage .exit)) ≡ 1024 ⌝ }
+{
+    write_path(1, at, bits, steps, stage);
+    let given = at + steps as usize;
+    write_words(1, given, words, stage);
+    let filled = steps + words.len() as u64;
+    write_same(0, 1, at + filled as usize, height - filled, stage);
+}
+
+// How many words of a piece are staged, and as how many rows.
+pub struct Staged {
+    pub next: usize,
+    pub rows: usize,
+}
+
+// The first records of a piece without a fault, at the most sixteen, as lines of the stage.
+fn stage_rows(
+    height: u64,
     bits: &[u64; 128],
     steps: &[u64; 128],
     piece: &[u64],
-    constants: &mut [u64],
-)
-    requires { ⌜ (trace ≤ 65536) × (low < 64) × (width ≤ 8) × ((low + width) * trace ≤ length (now constants)) ⌝ }
-    requires { ⌜ FaultlessIn trace count (now piece) ⌝ }
-    ensures { λ _. ⌜ ((many : ℕ) (own : ℕ → ℕ) (path : ℕ → List ℕ) → rowsFault many own trace count (rowsOf (now (piece .entry))) ≡ 0 → Spells many path (now (bits .entry)) (now (steps .entry)) → now (constants .exit) ≡ putWindow low width trace count (rowLines path (rowsOf (now (piece .entry)))) (now (constants .entry))) ⌝ }
+    stage: &mut [u64; 1024],
+) -> Staged
+    requires { ⌜ (height ≤ 64) × (length (now stage) ≡ 1024) ⌝ }
+    requires { ⌜ Stageable height (now steps) (now piece) ⌝ }
+    ensures { λ r. ⌜ Stages height (now (bits .entry)) (now (steps .entry)) (now (piece .entry)) (now (stage .exit)) (r .next) (r .rows) ⌝ }
 {
-    let base = low as usize * trace as usize;
-    let mut row = count;
+    let mut rows = 0;
     let mut i = 0;
-    while i < piece.len() {
+    while rows < 16 {
+        if piece.len() <= i {
+            return Staged {
+                next: i,
+                rows: rows,
+            };
+        }
         let g = piece[i] as usize;
         let start = i + 2;
         let end = start + piece[i + 1] as usize;
-        write_part(
-            low,
-            width,
-            trace as usize,
-            row as usize + base,
+        stage_line(
+            64 * rows,
+            height,
             bits[g],
             steps[g],
             &piece[start..end],
-            constants,
+            stage,
         );
-        row = row + 1;
+        rows = rows + 1;
         i = end;
+    }
+    Staged {
+        next: i,
+        rows: rows,
     }
 }
 
-// The records of a piece without a fault, in the rows from `count` on. The columns lie a power of
-// two apart, so that the words of a row share one set of the cache: they are written eight columns
-// at a time.
+// The records of a piece without a fault, in the rows from `count` on: sixteen at a time, which are
+// staged as lines and then written column by column.
 pub(crate) fn write_rows(
     height: u64,
     trace: u64,
@@ -188,10 +172,21 @@ pub(crate) fn write_rows(
 {
     let bits = gates.bits;
     let steps = gates.steps;
-    let mut low = 0;
-    while low < height {
-        let width = 8 - beyond(8, height - low);
-        write_window(low, width, trace, count, &bits, &steps, piece, constants);
-        low = low + width;
+    let mut stage = [0; 1024];
+    let mut row = count as usize;
+    let mut i = 0;
+    while i < piece.len() {
+        let staged = stage_rows(height, &bits, &steps, &piece[i..], &mut stage);
+        write_lines(
+            height as usize,
+            64,
+            trace as usize,
+            row,
+            staged.rows,
+            &stage,
+            constants,
+        );
+        row = row + staged.rows;
+        i = i + staged.next;
     }
 }

@@ -1,17 +1,20 @@
 // Lookup tables: stacked, each row with its table's number.
 ghost use mathlib.Core.Path.{_≡_};
 ghost use mathlib.Core.Bool.{true};
-ghost use mathlib.Core.List.{[], _∷_, _++_};
-ghost use Prim.Native.Nat.{ℕ, _+_, _*_, _<_, _≤_};
+ghost use Prim.Native.Nat.{_+_, _-_, _*_, _<_, _≤_};
 ghost use lib.ListN.{length};
 ghost use Rattle.pieces.specs.Records.{tableSize, front, tablesOf};
-ghost use Rattle.pieces.specs.Writing.{put, putLines};
+ghost use Rattle.pieces.specs.Writing.{putLines};
 ghost use Rattle.pieces.specs.Tables.{tableFault, tablesFault, entries, tableLines, sumRows};
 ghost use Rattle.columns.specs.Stacked.{stack};
 use crate::records::all_below;
-use crate::records::write_words;
+use crate::records::write_lines;
+use crate::records::write_same;
 
 pub const MOST_TABLES: u64 = 255;
+
+// Rows of a table that are written together: at the most 16 words each, 32 KB.
+const BLOCK: usize = 256;
 
 // The number of the record at the front of the words, 0 where it has no fault: after `count`
 // tables of `high` rows in all.
@@ -74,17 +77,36 @@ pub(crate) fn tables_fault(
     0
 }
 
-// One row of a table: its words, then the table's number.
-fn write_entry(trace: usize, row: usize, number: u64, words: &[u64], tables: &mut [u64])
-    requires { ⌜ (trace ≤ 65536) × (row < trace) × (length (now words) ≤ 16) × ((length (now words) + 1) * trace ≤ length (now tables)) ⌝ }
-    ensures { λ _. ⌜ now (tables .exit) ≡ put trace (now (tables .entry)) row (now (words .entry) ++ (number ∷ [])) ⌝ }
+// Rows of one table, from the row `high` on: their words, then a column of its number.
+fn write_block(
+    width: usize,
+    trace: usize,
+    number: u64,
+    high: usize,
+    rows: usize,
+    words: &[u64],
+    tables: &mut [u64],
+)
+    requires { ⌜ (width ≤ 16) × (trace ≤ 65536) × (high + rows ≤ trace) × (width * rows ≤ length (now words)) ⌝ }
+    requires { ⌜ (width + 1) * trace ≤ length (now tables) ⌝ }
+    ensures { λ _. ⌜ now (tables .exit) ≡ putLines (width + 1) trace high (entries width number rows (now (words .entry))) (now (tables .entry)) ⌝ }
 {
-    write_words(trace, row, words, tables);
-    let at = row + words.len() * trace;
-    tables[at] = number;
+    write_lines(width, width, trace, high, rows, words, tables);
+    write_same(number, 1, high + width * trace, rows as u64, tables);
 }
 
-// The rows of one table, from the row `high` on.
+// How many of the rows that are left make up the next block.
+fn block_rows(left: usize) -> usize
+    ensures { λ r. ⌜ r ≡ 256 - (256 - left) ⌝ }
+{
+    if left < BLOCK {
+        return left;
+    }
+    BLOCK
+}
+
+// The rows of one table, from the row `high` on, in blocks: their words stay in the first cache
+// while the block's columns are written one after the other.
 fn write_table(
     width: usize,
     trace: usize,
@@ -98,13 +120,20 @@ fn write_table(
     requires { ⌜ (width + 1) * trace ≤ length (now tables) ⌝ }
     ensures { λ _. ⌜ now (tables .exit) ≡ putLines (width + 1) trace high (entries width number rows (now (words .entry))) (now (tables .entry)) ⌝ }
 {
-    let mut start = 0;
     let mut j = 0;
     while j < rows {
-        let end = start + width;
-        write_entry(trace, high + j, number, &words[start..end], tables);
-        start = end;
-        j = j + 1;
+        let many = block_rows(rows - j);
+        let start = width * j;
+        write_block(
+            width,
+            trace,
+            number,
+            high + j,
+            many,
+            &words[start..],
+            tables,
+        );
+        j = j + many;
     }
 }
 

@@ -1,85 +1,109 @@
--- `columns::rows::write_rows` meets its contract. Each turn writes all records' words in one window, after those of the columns before it (RowLoop).
+-- `columns::rows::write_rows` meets its contract. Each turn stages some records and writes their lines, and the rest is what is left (StageLoop).
 -- Assumes nothing.
 use borrow.Author.Needs.{needs}
-use mathlib.Core.Path.{_≡_, ap, _∙_}
-use native.Mathlib.Nat.{mul-le-mul-right}
+use mathlib.Core.Path.{refl, sym}
 use native.Mathlib.Omega.{arith}
-use Prim.Native.Nat.{ℕ, _+_, _-_, _*_, _<_, _≤_}
-use lib.ListN.{length, getD}
-use mathlib.Core.List.{List}
-use Rattle.pieces.specs.Records.{rowsOf}
-use Rattle.pieces.specs.Rows.{rowLines}
-use Rattle.pieces.specs.Writing.{putLines}
-use Rattle.columns.proofs.RowLoop.{Windows, windows-begin, windows-next}
+use Prim.Native.Nat.{ℕ, _+_, _-_, _<_, _≤_}
+use lib.ListN.{length, getD, drop, length-drop}
+use Rattle.columns.specs.Placed.{Stageable, Stages}
+use Rattle.columns.proofs.Parts.{rest-is}
+use Rattle.columns.proofs.StageLoop.{Writing, writing-begin, writing-room, writing-next, writing-lines}
 use Rattle.columns.proofs.rows.write_rows.Statement.{statement}
 use Rattle.columns.proofs.rows.write_rows.Tie as tie
 
 abbrev Inv-loop : tie.InvT-loop
-Inv-loop height trace count piece constants₀ bits steps low₀ constants low = Windows trace count piece constants₀ bits steps height constants low
+Inv-loop height trace count piece constants₀ bits steps stage₀ row₀ i₀ constants stage row i = Writing height trace count piece constants₀ bits steps constants stage row i
 
 abbrev μ-loop : tie.MeasureT-loop
-μ-loop height trace count piece constants₀ bits steps low₀ constants low = height - low
-
--- the window: at least one column, at most eight, none past the height
-record Wide (height low w : ℕ) : Type 0 where
-  pub some : 0 < w
-  pub few : w ≤ 8
-  pub within : low + w ≤ height
-
-wide-by : (height low r : ℕ) → low < height → r ≡ 8 - (height - low) → Wide height low (8 - r)
-wide-by height low r h e = record { some = omega arith; few = omega arith; within = omega arith }
-
-wide : (c : tie.After-beyond Inv-loop μ-loop) → Wide (c .before .before .before .before .before .before .before .args .height) (c .before .before .loop .low) (8 - c .beyond .result)
-wide c = wide-by (c .before .before .before .before .before .before .before .args .height) (c .before .before .loop .low) (c .beyond .result) (c .before .loop-test .taken) (c .beyond .ensures)
-
-window-long : (k height N len len₀ : ℕ) → k ≤ height → height * N ≤ len₀ → len ≡ len₀ → k * N ≤ len
-window-long k height N len len₀ h l e = omega (arith, mul-le-mul-right N h)
-
-less-by : (height low w : ℕ) → 0 < w → low + w ≤ height → height - (low + w) < height - low
-less-by height low w h k = omega arith
+μ-loop height trace count piece constants₀ bits steps stage₀ row₀ i₀ constants stage row i = length piece - i
 
 loop-holds : tie.Need-loop-holds Inv-loop μ-loop
 loop-holds c =
     let a = c .before .before .before .before .args in
-    windows-begin (a .trace) (a .count) (a .piece .now) (a .constants .now) (a .gates .bits) (a .gates .steps) (a .height)
+    writing-begin (a .height) (a .trace) (a .count) (a .piece .now) (a .constants .now) (a .gates .bits) (a .gates .steps) _ refl
 
-sub-beyond : tie.Need-sub-beyond Inv-loop μ-loop
-sub-beyond c = search needs
+mul-stage-rows : tie.Need-mul-stage-rows Inv-loop μ-loop
+mul-stage-rows c = search needs
 
-beyond-requires : tie.Need-beyond-requires Inv-loop μ-loop
-beyond-requires c κs = search needs
+sub-stage-rows : tie.Need-sub-stage-rows Inv-loop μ-loop
+sub-stage-rows c = search needs
 
-sub-width : tie.Need-sub-width Inv-loop μ-loop
-sub-width c = omega (arith, c .beyond .ensures)
+part-stage-rows-start : tie.Need-part-stage-rows-start Inv-loop μ-loop
+part-stage-rows-start c = search needs
 
-write-window-requires : tie.Need-write-window-requires Inv-loop μ-loop
-write-window-requires c κs =
+part-stage-rows-end : tie.Need-part-stage-rows-end Inv-loop μ-loop
+part-stage-rows-end c = search needs
+
+stage-rows-requires : tie.Need-stage-rows-requires Inv-loop μ-loop
+stage-rows-requires c κs =
     let s = c .before .before .before .before .before .before .before .before .before .before in
     let a = s .args in
     let l = c .before .before .before .before .before .loop in
-    let w = wide (c .before .before .before) in
-    let first : l .low < 64 = omega (arith, w .some, w .within, s .pre .0 .1) in (
-      (s .pre .0 .0, first, w .few, window-long (l .low + (8 - c .before .before .before .beyond .result)) (a .height) (a .trace) (length (l .constants)) (length (a .constants .now)) (w .within) (s .pre .0 .3) (l .inv .long)),
-      record { many = a .gates .many; own = λ (g : ℕ). getD (a .gates .own) g 0; few = s .pre .0 .2; no-fault = s .pre .1 .1 },
-    )
+    let own : ℕ → ℕ = λ (g : ℕ). getD (a .gates .own) g 0 in
+    let q : Stageable (a .height) (a .gates .steps) (drop (l .i) (a .piece .now)) =
+    record {
+      many = a .gates .many;
+      own = a .gates .own;
+      trace = a .trace;
+      count = l .row;
+      few = s .pre .0 .2;
+      room = s .pre .1 .0;
+      no-fault = l .inv .fine (a .gates .many) own (s .pre .1 .1);
+    } in
+    ((s .pre .0 .1, l .inv .staged), rw (rest-is (a .piece .now) (l .i)) q)
 
-add-low : tie.Need-add-low Inv-loop μ-loop
-add-low c =
+-- what is staged is the first of the records that are left
+first : (c : tie.After-stage-rows Inv-loop μ-loop)
+    → Stages (c .before .before .before .before .before .before .before .before .before .before .before .args .height) (c .before .before .before .before .before .before .before .before .before .before .before .args .gates .bits) (c .before .before .before .before .before .before .before .before .before .before .before .args .gates .steps) (drop (c .before .before .before .before .before .before .loop .i) (c .before .before .before .before .before .before .before .before .before .before .before .args .piece .now)) (c .stage-rows .last .1 .1 .1 .1 .0) (c .stage-rows .result .next) (c .stage-rows .result .rows)
+first c = rw (rest-is (c .before .before .before .before .before .before .before .before .before .before .before .args .piece .now) (c .before .before .before .before .before .before .loop .i)) at (c .stage-rows .ensures)
+
+record Turn (len trace i row next rows : ℕ) : Type 0 where
+  pub some : 0 < next
+  pub within : i + next ≤ len
+  pub few : rows ≤ 16
+  pub room : row + rows ≤ trace
+
+turn : (c : tie.After-stage-rows Inv-loop μ-loop) → Turn (length (c .before .before .before .before .before .before .before .before .before .before .before .args .piece .now)) (c .before .before .before .before .before .before .before .before .before .before .before .args .trace) (c .before .before .before .before .before .before .loop .i) (c .before .before .before .before .before .before .loop .row) (c .stage-rows .result .next) (c .stage-rows .result .rows)
+turn c =
+    let s = c .before .before .before .before .before .before .before .before .before .before .before in
+    let a = s .args in
+    let l = c .before .before .before .before .before .before .loop in
+    let p = first c in
+    let h : l .i < length (a .piece .now) = c .before .before .before .before .before .loop-test .taken in
+    let n = length-drop (l .i) (a .piece .now) in
+    let own : ℕ → ℕ = λ (g : ℕ). getD (a .gates .own) g 0 in
+    record {
+      some = p .some (omega (arith, h, n)) .0;
+      within = omega (arith, p .within, n, h);
+      few = p .few;
+      room = writing-room (a .height) (a .trace) (a .count) (a .piece .now) (a .constants .now) (a .gates .bits) (a .gates .steps) (l .constants) (l .stage) (l .row) (l .i) (l .inv) _ _ _ p (a .gates .many) own (s .pre .1 .1) h;
+    }
+
+slice-aggregate-write-lines : tie.Need-slice-aggregate-write-lines Inv-loop μ-loop
+slice-aggregate-write-lines c = sym (first (c .before) .long)
+
+write-lines-requires : tie.Need-write-lines-requires Inv-loop μ-loop
+write-lines-requires c κs =
     let s = c .before .before .before .before .before .before .before .before .before .before .before .before .before in
-    omega (arith, wide (c .before .before .before .before .before .before) .within, s .pre .0 .1)
+    let l = c .before .before .before .before .before .before .before .before .loop in
+    let t = turn (c .before .before) in
+    ((s .pre .0 .1, omega arith, s .pre .0 .0, t .room), (omega (arith, t .few, first (c .before .before) .long), omega (arith, s .pre .0 .3, l .inv .long)))
+
+add-row : tie.Need-add-row Inv-loop μ-loop
+add-row c = omega (arith, turn (c .before .before .before .before .before .before), c .before .before .before .before .before .before .before .before .before .before .before .before .before .before .before .before .before .pre .0 .0)
+
+add-i : tie.Need-add-i Inv-loop μ-loop
+add-i c = omega (arith, turn (c .before .before .before .before .before .before .before))
 
 loop-less : tie.Need-loop-less Inv-loop μ-loop
-loop-less c =
-    let w = wide (c .before .before .before .before .before .before) in
-    less-by _ _ _ (w .some) (w .within)
+loop-less c = omega (arith, turn (c .before .before .before .before .before .before .before))
 
 loop-again : tie.Need-loop-again Inv-loop μ-loop
 loop-again c =
-    let a = c .before .before .before .before .before .before .before .before .before .before .before .before .before .args in
-    let l = c .before .before .before .before .before .before .before .before .loop in
-    let w = c .before .before .write-window in
-    windows-next (a .trace) (a .count) (a .piece .now) (a .constants .now) (a .gates .bits) (a .gates .steps) (a .height) (l .constants) (l .low) (8 - c .before .before .before .before .before .before .beyond .result) (l .inv)
-    (wide (c .before .before .before .before .before .before) .within) _ (w .kept .1 .1 .1 .1 .1 .1 .1 .0) (w .ensures)
+    let a = c .before .before .before .before .before .before .before .before .before .before .before .before .before .before .before .before .before .before .args in
+    let l = c .before .before .before .before .before .before .before .before .before .before .before .before .before .loop in
+    let w = c .before .before .before .before .write-lines in
+    writing-next (a .height) (a .trace) (a .count) (a .piece .now) (a .constants .now) (a .gates .bits) (a .gates .steps) (l .constants) (l .stage) (l .row) (l .i) (l .inv) _ _ _ (first (c .before .before .before .before .before .before .before)) _ (w .kept .1 .1 .1 .1 .1 .1 .0) (w .ensures)
 
 same-length : tie.Need-same-length Inv-loop μ-loop
 same-length c = c .before .loop .inv .long
@@ -89,10 +113,9 @@ returns c =
     let s = c .before .before .before .before .before .before in
     let a = s .args in
     let l = c .before .loop in
-    let e : l .low ≡ a .height = omega (arith, l .inv .below, c .loop-test .left) in
     λ path q.
-    l .inv .lines (a .gates .many) (λ (g : ℕ). getD (a .gates .own) g 0) path (s .pre .1 .1) q
-    ∙ ap (λ (k : ℕ). putLines k (a .trace) (a .count) (rowLines path (rowsOf (a .piece .now))) (a .constants .now)) e
+    writing-lines (a .height) (a .trace) (a .count) (a .piece .now) (a .constants .now) (a .gates .bits) (a .gates .steps) (l .constants) (l .stage) (l .row) (l .i) (l .inv) (c .loop-test .left)
+    (a .gates .many) (λ (g : ℕ). getD (a .gates .own) g 0) path (s .pre .1 .1) q
 
 pub write-rows-spec : {M : Type 1} → statement M
 write-rows-spec =
@@ -101,11 +124,15 @@ write-rows-spec =
     Inv-loop
     μ-loop
     loop-holds
-    sub-beyond
-    beyond-requires
-    sub-width
-    write-window-requires
-    add-low
+    mul-stage-rows
+    sub-stage-rows
+    part-stage-rows-start
+    part-stage-rows-end
+    stage-rows-requires
+    slice-aggregate-write-lines
+    write-lines-requires
+    add-row
+    add-i
     loop-less
     loop-again
     same-length
