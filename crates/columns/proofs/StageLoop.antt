@@ -64,17 +64,18 @@ cut-more w d (suc n) b ws h l room =
     let p : padded w (put 1 b (d + d * n) ws) ≡ padded w b = put-behind w b (d + d * n) ws (omega arith) in
     rw (z, p, put-past d b (d * n) ws) (ap (λ (ls : List (List ℕ)). padded w b ∷ ls) (cut-more w d n (drop d b) ws h l (omega (arith, length-drop d b))))
 
--- ---- records
--- those after some have no fault either
-pub rows-later : (many : ℕ) (own : ℕ → ℕ) (N r : ℕ) (xs ys : List Read) → rowsFault many own N r (xs ++ ys) ≡ 0 → rowsFault many own N (r + length xs) ys ≡ 0
+-- ---- records after some: they have no fault either
+rows-later : (many : ℕ) (own : ℕ → ℕ) (N r : ℕ) (xs ys : List Read) → rowsFault many own N r (xs ++ ys) ≡ 0 → rowsFault many own N (r + length xs) ys ≡ 0
 rows-later many own N r [] ys e = rw add-zero e
 rows-later many own N r (x ∷ xs) ys e =
     rw (add-suc, ← suc-add) (rows-later many own N (suc r) xs ys (fault-head (rowFault many own N) (λ r _. suc r) r x (xs ++ ys) e .1))
 
+-- those that a loop has still to read are those of the words that are left
 rest-rows : (ws : List ℕ) (i : ℕ) (rs : List Read) → Rest rowSize ws i rs → rs ≡ rowsOf (drop i ws)
 unfolding rowsOf
 rest-rows ws i rs r = r .are ∙ read-fuel rowSize (r .turns) (length (drop i ws)) (drop i ws) (omega (arith, r .enough, length-drop i ws)) (omega arith)
 
+-- ---- staging
 module _ (height : ℕ) (bits steps piece : List ℕ) where
   pub record Staging (stage : List ℕ) (rows i : ℕ) : Type 0 where
     pub within : i ≤ length piece

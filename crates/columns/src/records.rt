@@ -23,7 +23,7 @@ pub(crate) fn all_below(words: &[u64]) -> bool
     true
 }
 
-// Words at place `at` and every `step` words after it: a part of a line, across the columns.
+// Words at place `at` and every `step` words after it.
 pub(crate) fn write_words(step: usize, at: usize, words: &[u64], buffer: &mut [u64])
     requires { ⌜ (step ≤ 65536) × (at + length (now words) * step < length (now buffer) + step) ⌝ }
     ensures { λ _. ⌜ now (buffer .exit) ≡ put step (now (buffer .entry)) at (now (words .entry)) ⌝ }
