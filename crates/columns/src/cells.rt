@@ -91,13 +91,14 @@ fn place_cell(cell: u64, variable: Variable, copies: &mut [u64], scratch: &mut [
     }
     let at = (2 * variable.as_variable_index()) as usize;
     let place = cell as usize;
-    let value = scratch[at];
     let word = copies[place];
-    scratch[at] = word;
+    let value = scratch[at];
     if value == 0 {
         scratch[at + 1] = cell;
+        scratch[at] = word;
     } else {
         copies[place] = value;
+        scratch[at] = word;
     }
 }
 

@@ -1,5 +1,6 @@
 // What rows and tables have in common: words below p, and lines across columns.
 ghost use mathlib.Core.Path.{_≡_};
+ghost use mathlib.Core.Bool.{true, false};
 ghost use mathlib.Core.List.{List};
 ghost use Prim.Native.Nat.{ℕ, _+_, _*_, _<_, _≤_};
 ghost use lib.ListN.{length, take, drop, replicate};
@@ -9,11 +10,30 @@ ghost use Rattle.pieces.specs.Writing.{put, putLines};
 ghost use Rattle.columns.specs.Digits.{Left};
 ghost use Rattle.columns.specs.Lines.{strided, cutLines};
 
-// Whether every word is below p.
-pub(crate) fn all_below(words: &[u64]) -> bool
-    ensures { λ r. ⌜ r ≡ allBelow p (now (words .entry)) ⌝ }
+// Whether the four words from place `at` on are below p.
+fn four_below(words: &[u64], at: usize) -> bool
+    requires { ⌜ at + 4 ≤ length (now words) ⌝ }
+    ensures { λ r. ⌜ (r ≡ true → allBelow p (drop at (now (words .entry))) ≡ allBelow p (drop (at + 4) (now (words .entry)))) ⌝ }
+    ensures { λ r. ⌜ (r ≡ false → allBelow p (drop at (now (words .entry))) ≡ false) ⌝ }
 {
-    let mut i = 0;
+    if field::P <= words[at] {
+        return false;
+    }
+    if field::P <= words[at + 1] {
+        return false;
+    }
+    if field::P <= words[at + 2] {
+        return false;
+    }
+    words[at + 3] < field::P
+}
+
+// Whether every word from place `from` on is below p.
+fn below_from(words: &[u64], from: usize) -> bool
+    requires { ⌜ from ≤ length (now words) ⌝ }
+    ensures { λ r. ⌜ r ≡ allBelow p (drop from (now (words .entry))) ⌝ }
+{
+    let mut i = from;
     while i < words.len() {
         if field::P <= words[i] {
             return false;
@@ -21,6 +41,21 @@ pub(crate) fn all_below(words: &[u64]) -> bool
         i = i + 1;
     }
     true
+}
+
+// Whether every word is below p: four words a turn, since the turn costs as much as the test.
+pub(crate) fn all_below(words: &[u64]) -> bool
+    ensures { λ r. ⌜ r ≡ allBelow p (now (words .entry)) ⌝ }
+{
+    let mut i = 0;
+    while 4 <= words.len() - i {
+        if four_below(words, i) {
+            i = i + 4;
+        } else {
+            return false;
+        }
+    }
+    below_from(words, i)
 }
 
 // Words at place `at` and every `step` words after it.

@@ -6,10 +6,10 @@ use native.Mathlib.Omega.{arith}
 use borrow.Author.Tests.{leb-true, leb-false}
 use Prim.Native.Nat.{ℕ, _+_, _*_, _<_}
 use lib.ListN.{length, getD, length-set}
+use lib.Seq.{set-comm}
 use Rattle.pieces.specs.Setting.{cols}
 use Rattle.pieces.specs.Cells.{placeholder, indexOf, firstSeen, seenAgain}
 use Rattle.pieces.specs.CellLaws.{place-skip, place-first, place-again}
-use borrow.Author.Needs.{needs}
 use Rattle.columns.proofs.cells.place_cell.Statement.{statement}
 use Rattle.columns.proofs.cells.place_cell.Tie as tie
 
@@ -36,26 +36,26 @@ as-variable-index-requires c κs = search needs
 mul-at : tie.Need-mul-at
 mul-at c = search needs
 
-mul-value : tie.Need-mul-value
-mul-value c = search needs
-
-slice-read-value : tie.Need-slice-read-value
-slice-read-value c = omega (arith, room (c .before .before), c .before .as-variable-index .ensures)
-
 mul-word : tie.Need-mul-word
 mul-word c = search needs
 
 slice-read-word : tie.Need-slice-read-word
 slice-read-word c = search needs
 
+mul-value : tie.Need-mul-value
+mul-value c = search needs
+
+slice-read-value : tie.Need-slice-read-value
+slice-read-value c = omega (arith, room (c .before .before .before), c .before .before .as-variable-index .ensures)
+
+add-scratch : tie.Need-add-scratch
+add-scratch c = search needs
+
 mul-scratch : tie.Need-mul-scratch
 mul-scratch c = search needs
 
 slice-write-scratch : tie.Need-slice-write-scratch
-slice-write-scratch c = omega (arith, room (c .before .before .before), c .before .before .as-variable-index .ensures)
-
-add-scratch : tie.Need-add-scratch
-add-scratch c = search needs
+slice-write-scratch c = omega (arith, room (c .before .before .before .before), c .before .before .before .as-variable-index .ensures)
 
 mul-scratch-2 : tie.Need-mul-scratch-2
 mul-scratch-2 c = search needs
@@ -69,15 +69,24 @@ mul-copies c = search needs
 slice-write-copies : tie.Need-slice-write-copies
 slice-write-copies c = search needs
 
+mul-scratch-3 : tie.Need-mul-scratch-3
+mul-scratch-3 c = search needs
+
+slice-write-scratch-3 : tie.Need-slice-write-scratch-3
+slice-write-scratch-3 c = omega (arith, room (c .before .before .before .before), c .before .before .before .as-variable-index .ensures)
+
 same-length : tie.Need-same-length
 same-length c = search needs
 
+-- the two scratch words may be written in either order
 returns-2 : tie.Need-returns-2
 unfolding firstSeen
 returns-2 c =
     let a = c .before .before .before .before .before .before .before .before .args in
     let e = c .before .before .before .as-variable-index .ensures in
-    rw e (sym (place-first (a .cell) (a .variable .0) (cols (a .copies .now) (a .scratch .now)) (plain (c .before .before .before .before)) (rw e at (c .if2 .taken))))
+    let v = indexOf (a .variable .0) in
+    rw e (ap (cols (a .copies .now)) (sym (set-comm (a .scratch .now) (2 * v) (2 * v + 1) (getD (a .copies .now) (a .cell) 0) (a .cell) (λ z. omega (arith, z))))
+    ∙ sym (place-first (a .cell) (a .variable .0) (cols (a .copies .now) (a .scratch .now)) (plain (c .before .before .before .before)) (rw e at (c .if2 .taken))))
 
 same-length-2 : tie.Need-same-length-2
 same-length-2 c = search needs
@@ -100,17 +109,19 @@ place-cell-spec =
     returns
     as-variable-index-requires
     mul-at
-    mul-value
-    slice-read-value
     mul-word
     slice-read-word
+    mul-value
+    slice-read-value
+    add-scratch
     mul-scratch
     slice-write-scratch
-    add-scratch
     mul-scratch-2
     slice-write-scratch-2
     mul-copies
     slice-write-copies
+    mul-scratch-3
+    slice-write-scratch-3
     same-length
     returns-2
     same-length-2

@@ -1,13 +1,12 @@
 -- `columns::records::all_below` meets its contract. The words passed are below p, so what is left decides.
 -- Assumes nothing.
 use borrow.Author.Needs.{needs}
-use mathlib.Core.Path.{_≡_, refl, sym, ap, _∙_}
+use mathlib.Core.Path.{_≡_, refl, sym, _∙_}
 use native.Mathlib.Omega.{arith}
 use Prim.Native.Nat.{ℕ, _-_, _≤_}
 use lib.ListN.{length, drop}
 use Rattle.field.specs.Field.{p}
 use Rattle.pieces.specs.Records.{allBelow}
-use Rattle.pieces.specs.RecordLaws.{below-done, below-turn, below-found}
 use Rattle.columns.proofs.records.all_below.Statement.{statement}
 use Rattle.columns.proofs.records.all_below.Tie as tie
 
@@ -20,35 +19,31 @@ abbrev μ-loop : tie.MeasureT-loop
 loop-holds : tie.Need-loop-holds Inv-loop μ-loop
 loop-holds c = (omega arith, refl)
 
-mul-if1 : tie.Need-mul-if1 Inv-loop μ-loop
-mul-if1 c = search needs
+sub-loop : tie.Need-sub-loop Inv-loop μ-loop
+sub-loop c = omega (arith, c .loop .inv .0)
 
-shared-slice-read-if1 : tie.Need-shared-slice-read-if1 Inv-loop μ-loop
-shared-slice-read-if1 c = search needs
-
-returns : tie.Need-returns Inv-loop μ-loop
-returns c =
-    let l = c .before .before .before .loop in
-    let a = c .before .before .before .before .args in
-    sym (l .inv .1 ∙ below-found p (a .words .now) (l .i) (omega arith) (c .if1 .taken))
+four-below-requires : tie.Need-four-below-requires Inv-loop μ-loop
+four-below-requires c κs = omega (arith, c .loop-test .taken, c .before .loop .inv .0)
 
 add-i : tie.Need-add-i Inv-loop μ-loop
 add-i c = search needs
 
 loop-less : tie.Need-loop-less Inv-loop μ-loop
-loop-less c = search needs
+loop-less c = omega (arith, c .before .before .loop-test .taken, c .before .before .before .loop .inv .0)
 
 loop-again : tie.Need-loop-again Inv-loop μ-loop
 loop-again c =
     let l = c .before .before .before .loop in
-    let a = c .before .before .before .before .args in
-    (omega arith, l .inv .1 ∙ below-turn p (a .words .now) (l .i) (omega arith) (c .if1 .left))
+    (omega (arith, c .before .before .loop-test .taken, l .inv .0), l .inv .1 ∙ c .before .four-below .ensures .0 (c .if1 .taken))
+
+returns : tie.Need-returns Inv-loop μ-loop
+returns c = sym (c .before .before .before .loop .inv .1 ∙ c .before .four-below .ensures .1 (c .if1 .left))
+
+below-from-requires : tie.Need-below-from-requires Inv-loop μ-loop
+below-from-requires c κs = c .before .loop .inv .0
 
 returns-2 : tie.Need-returns-2 Inv-loop μ-loop
-returns-2 c =
-    let l = c .before .loop in
-    let a = c .before .before .args in
-    sym (l .inv .1 ∙ below-done p (a .words .now) (l .i) (omega arith))
+returns-2 c = c .below-from .ensures ∙ sym (c .before .before .loop .inv .1)
 
 pub all-below-spec : {M : Type 1} → statement M
 all-below-spec =
@@ -57,10 +52,11 @@ all-below-spec =
     Inv-loop
     μ-loop
     loop-holds
-    mul-if1
-    shared-slice-read-if1
-    returns
+    sub-loop
+    four-below-requires
     add-i
     loop-less
     loop-again
+    returns
+    below-from-requires
     returns-2)
