@@ -1,19 +1,23 @@
 -- The filling of label columns, for its proofs: column 0 is the powers of w, and every other column is its representative times column 0.
 --
 -- Main definitions: `rootPower`, `scaledFrom`, `ColumnZero`.
--- Main statements: `power-begin`, `power-next` (the powers of w one after the other), `label-column` (a label is its column's representative times a word of column 0),
+-- Main statements: `power-begin`, `power-one`, `power-both`, `powers-more` (as many powers of w again), `label-column` (a label is its column's representative times a word of column 0),
 -- `label-first` (column 0's labels are the powers of w), `column-next` (one more column), `all-columns`.
 use mathlib.Core.Path.{_≡_, sym, ap, _∙_}
 use mathlib.Core.List.{List}
-use Prim.Native.Nat.{ℕ, _+_, _-_, _*_, _/_, _%_, _≤_, _<_}
+use Prim.Native.Nat.{ℕ, zero, suc, _+_, _-_, _*_, _/_, _%_, _^_, _≤_, _<_}
 use native.Mathlib.Nat.{mul-le-mul-right, one-mul, mod-mod, mod-eq-of-lt, div-eq-of-lt, pow-zero, pow-suc}
 use native.Mathlib.Numerals.{add-one}
 use native.Mathlib.Omega.{arith}
 use lib.Arith.{digits-mod, digits-div}
+use lib.Pow.{pow-add}
 use lib.ListN.{length, getD}
-use Rattle.base.specs.Modular.{mod-mul}
+use Rattle.base.specs.Modular.{mod-mul, mul-mod}
 use Rattle.base.specs.Fills.{Filled, filled-join, filled-same}
-use Rattle.field.specs.Field.{fmul, fpow}
+use Rattle.field.specs.FieldLaws.{fmul-below}
+use Rattle.field.specs.Numerals.{generator-is}
+use Rattle.field.specs.Field.{p, fmul, fpow, generator, squared}
+use Rattle.base.specs.Exponent.{exponent}
 use Rattle.labels.specs.Ranges.{mostColumns}
 use Rattle.labels.specs.Labels.{domainGenerator, labelOf}
 
@@ -37,9 +41,35 @@ pub power-begin : (n : ℕ) → 1 ≡ rootPower n 0
 unfolding fpow
 power-begin n = rw pow-zero
 
-pub power-next : (n i x y : ℕ) → x ≡ rootPower n i → y ≡ fmul x (domainGenerator n) → y ≡ rootPower n (i + 1)
+-- w is a field element
+generator-below : (k a : ℕ) → a < p → squared k a < p
+unfolding squared
+generator-below zero a h = h
+generator-below (suc k) a h = generator-below k (fmul a a) (fmul-below a a)
+
+root-below : generator < p
+root-below = rw generator-is (omega arith)
+
+first-power : (w : ℕ) → w < p → w ≡ w ^ 1 % p
+first-power w h = let e : 1 * w ≡ w = omega arith in sym (ap (λ (k : ℕ). k % p) (pow-suc w 0 ∙ rw pow-zero e) ∙ mod-eq-of-lt h)
+
+pub power-one : (n : ℕ) → domainGenerator n ≡ rootPower n 1
+unfolding fpow domainGenerator
+power-one n = first-power (squared (32 - exponent n) generator) (generator-below (32 - exponent n) generator root-below)
+
+-- exponents add
+pub power-both : (n i j : ℕ) → rootPower n (i + j) ≡ fmul (rootPower n i) (rootPower n j)
 unfolding fpow
-power-next n i x y h e = e ∙ rw (h, mod-mul, add-one, pow-suc)
+power-both n i j = rw (mod-mul, mul-mod, pow-add)
+
+-- the powers from i on are the first ones times the i-th
+pub powers-more : (n i m : ℕ) (x y : List ℕ) → m ≤ i → ((k : ℕ) → k < i → getD x k 0 ≡ rootPower n k) → Filled (scaledFrom (rootPower n i) i x) i (i + m) x y → Filled (rootPower n) i (i + m) x y
+powers-more n i m x y h first more = filled-same (scaledFrom (rootPower n i) i x) (rootPower n) i (i + m) x y same more
+  where
+    same : (k : ℕ) → i ≤ k → k < i + m → scaledFrom (rootPower n i) i x k ≡ rootPower n k
+    same k l u =
+        let e : i + (k - i) ≡ k = omega arith in
+        ap (fmul (rootPower n i)) (first (k - i) (omega arith)) ∙ sym (power-both n i (k - i)) ∙ ap (rootPower n) e
 
 pub label-first : (n : ℕ) (reps : List ℕ) (i : ℕ) → i < n → getD reps 0 0 ≡ 1 → rootPower n i ≡ labelOf n reps i
 unfolding labelOf fpow

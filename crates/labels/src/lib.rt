@@ -180,22 +180,6 @@ pub fn label(n: u64, c: u64, cell: u64) -> LabelAnswer
     }
 }
 
-// Column 0: the powers of w. Each is the one before it times w.
-fn materialize_x_poly(n: u64, copies: &mut [u64])
-    requires { ⌜ n ≤ length (now copies) ⌝ }
-    ensures { λ r. ⌜ Filled (rootPower n) 0 n (now (copies .entry)) (now (copies .exit)) ⌝ }
-{
-    let w = domain_generator_for_size(n);
-    let rows = n as usize;
-    let mut x: u64 = 1;
-    let mut r: usize = 0;
-    while r < rows {
-        copies[r] = x;
-        x = field::mul(x, w);
-        r += 1;
-    }
-}
-
 // The n words from `at` on: k times the first n, word by word.
 fn materialize_x_by_non_residue(k: u64, at: usize, n: usize, copies: &mut [u64])
     requires { ⌜ (n ≤ at) × (at + n ≤ length (now copies)) ⌝ }
@@ -205,6 +189,25 @@ fn materialize_x_by_non_residue(k: u64, at: usize, n: usize, copies: &mut [u64])
     while r < n {
         copies[at + r] = field::mul(k, copies[r]);
         r += 1;
+    }
+}
+
+// Column 0: the powers of w. As many words again as there are, at the most, each time: w to the
+// power of their number times those, so that no product waits for the one before it.
+fn materialize_x_poly(n: u64, copies: &mut [u64])
+    requires { ⌜ (1 ≤ n) × (n ≤ length (now copies)) ⌝ }
+    ensures { λ r. ⌜ Filled (rootPower n) 0 n (now (copies .entry)) (now (copies .exit)) ⌝ }
+{
+    let rows = n as usize;
+    let mut x = domain_generator_for_size(n);
+    copies[0] = 1;
+    let mut r: usize = 1;
+    while r < rows {
+        let left = rows - r;
+        let more = if r < left { r } else { left };
+        materialize_x_by_non_residue(x, r, more, copies);
+        x = field::mul(x, x);
+        r += more;
     }
 }
 

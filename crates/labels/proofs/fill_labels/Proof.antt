@@ -45,7 +45,8 @@ returns c =
 materialize-x-poly-requires : tie.Need-materialize-x-poly-requires
 materialize-x-poly-requires c κs =
     let t = c .before .before .before .before .before in
-    omega (arith, t .if2 .taken, mul-le-mul-right (c .before .before .before .before .before .before .before .before .before .args .n) (ranges (t .before) .some-column))
+    let a = c .before .before .before .before .before .before .before .before .before .args in
+    (some-row (a .n) (a .c) (ranges (t .before)), omega (arith, t .if2 .taken, mul-le-mul-right (a .n) (ranges (t .before) .some-column)))
 
 materialize-x-by-non-residue-polys-requires : tie.Need-materialize-x-by-non-residue-polys-requires
 materialize-x-by-non-residue-polys-requires c κs =
