@@ -3,5 +3,4 @@ pub mod Planning
 pub mod Intake
 pub mod PlanningLaws
 pub mod IntakeLaws
-pub mod Carried
 mod Examples
