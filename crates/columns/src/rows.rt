@@ -101,11 +101,11 @@ fn stage_line(at: usize, height: u64, bits: u64, steps: u64, words: &[u64], stag
     ensures { λ _. ⌜ ((path : List ℕ) → Spelled path bits steps → now (stage .exit) ≡ put 1 (now (stage .entry)) at (padded height (path ++ now (words .entry)))) ⌝ }
     ensures { λ _. ⌜ length (now (stage .exit)) ≡ 1024 ⌝ }
 {
-    write_path(1, at, bits, steps, stage);
+    write_path(at, bits, steps, stage);
     let given = at + steps as usize;
-    write_words(1, given, words, stage);
+    write_words(given, words, stage);
     let filled = steps + words.len() as u64;
-    write_same(0, 1, at + filled as usize, height - filled, stage);
+    write_same(0, at + filled as usize, height - filled, stage);
 }
 
 // How many words of a piece are staged, and as how many rows.
