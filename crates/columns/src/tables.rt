@@ -1,7 +1,7 @@
 // Lookup tables: stacked, each row with its table's number.
 ghost use mathlib.Core.Path.{_≡_};
 ghost use mathlib.Core.Bool.{true};
-ghost use Prim.Native.Nat.{_+_, _-_, _*_, _<_, _≤_};
+ghost use Prim.Native.Nat.{_+_, _-_, _*_, _≤_};
 ghost use lib.ListN.{length};
 ghost use Rattle.pieces.specs.Records.{tableSize, front, tablesOf};
 ghost use Rattle.pieces.specs.Writing.{putLines};
