@@ -1,4 +1,4 @@
--- A place that goes by `step` words, n times: it stays within a buffer of `len` words. For the loops that write across columns. Assumes nothing.
+-- A place that goes by `step` words, n times: it stays within a list of `len` words. For the loop that takes every `step`-th word. Assumes nothing.
 use mathlib.Core.Path.{_≡_, refl}
 use Prim.Native.Nat.{ℕ, suc, _+_, _-_, _*_, _≤_, _<_}
 use native.Mathlib.Omega.{arith}

@@ -21,7 +21,6 @@ pub record Spells (many : ℕ) (path : ℕ → List ℕ) (bits steps : List ℕ)
 
 -- each path leaves room for its gate's constants below `height`
 pub record Fits (many height : ℕ) (own steps : List ℕ) : Type 0 where
-  pub short : (g : ℕ) → g < many → getD steps g 0 ≤ 32
   pub fits : (g : ℕ) → g < many → getD steps g 0 + getD own g 0 ≤ height
 
 -- rows that some gates have no fault with, whose paths leave room for their constants

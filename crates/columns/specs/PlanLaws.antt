@@ -22,7 +22,7 @@ use Rattle.selector.specs.Nodes.{treeAt}
 use Rattle.selector.specs.MadeUp.{mostLevels, wanted}
 use Rattle.selector.specs.MadeUpLaws.{Sturdy}
 use Rattle.selector.specs.Paths.{pathTo, pathOf, orEmpty, bitsOf}
-use Rattle.selector.specs.PathLaws.{path-some, path-fits, path-deep}
+use Rattle.selector.specs.PathLaws.{path-some, path-fits}
 use Rattle.selector.specs.Refusals.{Sound as Records, recordNumber, recordsNumber, gatesNumber}
 use Rattle.selector.specs.RecordLaws.{gates-sound}
 use Rattle.parameters.specs.Lookup.{modeOf, widthOf}
@@ -45,7 +45,6 @@ pub record Sound (q : Plan) : Type 0 where
   pub few-gates : q .«gate_count» ≤ 128
   pub height : q .constants ≤ 47
   pub digits : (g : ℕ) → Each (λ (d : ℕ). d < 2) (planPath q g)
-  pub short : (g : ℕ) → length (planPath q g) ≤ 31
   pub fits : (g : ℕ) → g < q .«gate_count» → length (planPath q g) + constantsOf (planExtra q) (gatesGiven q) g ≤ q .constants
 
 -- ---- a dropped gate has no constants
@@ -152,7 +151,6 @@ module _ (q : Plan) (e : planFault q ≡ 0) (long : 384 ≤ length (q .gates)) w
         few-gates = whole .few-gates;
         height = omega (arith, nodes .most, deep, tree-constants words many (planExtra q) records (nodes .tree) 0 (nodes .listed));
         digits = λ g. rw (path-is g) (path-cases (Each (λ (d : ℕ). d < 2)) g (nodes .tree) (λ _. tt) (λ p h. path-digits (nodes .tree) g p h));
-        short = λ g. rw (path-is g) (path-cases (λ p. length p ≤ 31) g (nodes .tree) (λ _. omega arith) (λ p h. omega (arith, deep, path-deep (nodes .tree) g p h)));
         fits = λ g h. rw (path-is g) (path-cases (λ p. length p + constantsOf (planExtra q) words g ≤ q .constants) g (nodes .tree) (room g h) (λ p k. omega (arith, nodes .most, path-fits (planExtra q) words g (nodes .tree) p k)));
       }
 

@@ -254,7 +254,7 @@ impl Intake {
                 return refused(fault, self);
             }
             let at = (plan.constants * plan.trace + self.s_words) as usize;
-            write_words(1, at, piece, constants);
+            write_words(at, piece, constants);
             self.s_words = self.s_words + piece.len() as u64;
             return Taken {
                 number: 0,

@@ -58,46 +58,40 @@ pub(crate) fn all_below(words: &[u64]) -> bool
     below_from(words, i)
 }
 
-// Words at place `at` and every `step` words after it.
-pub(crate) fn write_words(step: usize, at: usize, words: &[u64], buffer: &mut [u64])
-    requires { ⌜ (step ≤ 65536) × (at + length (now words) * step < length (now buffer) + step) ⌝ }
-    ensures { λ _. ⌜ now (buffer .exit) ≡ put step (now (buffer .entry)) at (now (words .entry)) ⌝ }
+// Words at consecutive places from `at` on.
+pub(crate) fn write_words(at: usize, words: &[u64], buffer: &mut [u64])
+    requires { ⌜ at + length (now words) ≤ length (now buffer) ⌝ }
+    ensures { λ _. ⌜ now (buffer .exit) ≡ put 1 (now (buffer .entry)) at (now (words .entry)) ⌝ }
 {
-    let mut place = at;
     let mut i = 0;
     while i < words.len() {
-        buffer[place] = words[i];
-        place = place + step;
+        buffer[at + i] = words[i];
         i = i + 1;
     }
 }
 
 // The first digits of a path in the same way, the step from the root first.
-pub(crate) fn write_path(step: usize, at: usize, bits: u64, many: u64, buffer: &mut [u64])
-    requires { ⌜ (step ≤ 65536) × (many ≤ 64) × (at + many * step < length (now buffer) + step) ⌝ }
-    ensures { λ _. ⌜ ((path : List ℕ) → Left path bits 0 → many ≤ length path → now (buffer .exit) ≡ put step (now (buffer .entry)) at (take many path)) ⌝ }
+pub(crate) fn write_path(at: usize, bits: u64, many: u64, buffer: &mut [u64])
+    requires { ⌜ at + many ≤ length (now buffer) ⌝ }
+    ensures { λ _. ⌜ ((path : List ℕ) → Left path bits 0 → many ≤ length path → now (buffer .exit) ≡ put 1 (now (buffer .entry)) at (take many path)) ⌝ }
 {
     let mut rest = bits;
-    let mut place = at;
     let mut i: u64 = 0;
     while i < many {
-        buffer[place] = rest % 2;
+        buffer[at + i as usize] = rest % 2;
         rest = rest / 2;
-        place = place + step;
         i = i + 1;
     }
 }
 
-// The same word as often.
-pub(crate) fn write_same(word: u64, step: usize, at: usize, many: u64, buffer: &mut [u64])
-    requires { ⌜ (step ≤ 65536) × (many ≤ 65536) × (at + many * step < length (now buffer) + step) ⌝ }
-    ensures { λ _. ⌜ now (buffer .exit) ≡ put step (now (buffer .entry)) at (replicate many word) ⌝ }
+// The same word `many` times.
+pub(crate) fn write_same(word: u64, at: usize, many: u64, buffer: &mut [u64])
+    requires { ⌜ at + many ≤ length (now buffer) ⌝ }
+    ensures { λ _. ⌜ now (buffer .exit) ≡ put 1 (now (buffer .entry)) at (replicate many word) ⌝ }
 {
-    let mut place = at;
     let mut i: u64 = 0;
     while i < many {
-        buffer[place] = word;
-        place = place + step;
+        buffer[at + i as usize] = word;
         i = i + 1;
     }
 }

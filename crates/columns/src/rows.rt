@@ -1,7 +1,7 @@
 // Rows: each record's gate gives the path, the record the constants.
 ghost use mathlib.Core.Path.{_≡_};
 ghost use mathlib.Core.List.{List, _++_};
-ghost use Prim.Native.Nat.{ℕ, _+_, _*_, _<_, _≤_};
+ghost use Prim.Native.Nat.{ℕ, _+_, _*_, _≤_};
 ghost use lib.ListN.{length, getD};
 ghost use Rattle.pieces.specs.Records.{rowSize, front, rowsOf};
 ghost use Rattle.pieces.specs.Writing.{put, padded, putLines};
@@ -97,15 +97,15 @@ pub struct GateRows {
 
 // One row's words at place `at` of the stage: the path's digits, the constants, then zeros.
 fn stage_line(at: usize, height: u64, bits: u64, steps: u64, words: &[u64], stage: &mut [u64; 1024])
-    requires { ⌜ (height ≤ 64) × (at + height ≤ 1024) × (steps + length (now words) ≤ height) × (length (now stage) ≡ 1024) ⌝ }
+    requires { ⌜ (at + height ≤ 1024) × (steps + length (now words) ≤ height) × (length (now stage) ≡ 1024) ⌝ }
     ensures { λ _. ⌜ ((path : List ℕ) → Spelled path bits steps → now (stage .exit) ≡ put 1 (now (stage .entry)) at (padded height (path ++ now (words .entry)))) ⌝ }
     ensures { λ _. ⌜ length (now (stage .exit)) ≡ 1024 ⌝ }
 {
-    write_path(1, at, bits, steps, stage);
+    write_path(at, bits, steps, stage);
     let given = at + steps as usize;
-    write_words(1, given, words, stage);
+    write_words(given, words, stage);
     let filled = steps + words.len() as u64;
-    write_same(0, 1, at + filled as usize, height - filled, stage);
+    write_same(0, at + filled as usize, height - filled, stage);
 }
 
 // How many words of a piece are staged, and as how many rows.

@@ -1,7 +1,7 @@
 // Lookup tables: stacked, each row with its table's number.
 ghost use mathlib.Core.Path.{_≡_};
 ghost use mathlib.Core.Bool.{true};
-ghost use Prim.Native.Nat.{_+_, _-_, _*_, _<_, _≤_};
+ghost use Prim.Native.Nat.{_+_, _-_, _*_, _≤_};
 ghost use lib.ListN.{length};
 ghost use Rattle.pieces.specs.Records.{tableSize, front, tablesOf};
 ghost use Rattle.pieces.specs.Writing.{putLines};
@@ -92,7 +92,7 @@ fn write_block(
     ensures { λ _. ⌜ now (tables .exit) ≡ putLines (width + 1) trace high (entries width number rows (now (words .entry))) (now (tables .entry)) ⌝ }
 {
     write_lines(width, width, trace, high, rows, words, tables);
-    write_same(number, 1, high + width * trace, rows as u64, tables);
+    write_same(number, high + width * trace, rows as u64, tables);
 }
 
 // How many of the rows that are left make up the next block.

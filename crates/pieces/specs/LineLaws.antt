@@ -1,27 +1,20 @@
 -- Loops that write lines: what is left to write, row by row and table by table.
 --
--- Main statements: `rows-turn`, `marks-turn`, `entries-turn`, `tables-turn`, and `lines-through` (lines put end to end).
-use mathlib.Core.Path.{_≡_, refl, sym, ap, _∙_}
+-- Main statements: `lines-through` (lines put end to end), and for loops `marks-turn`, `tables-turn`, `sum-turn`.
+use mathlib.Core.Path.{_≡_, refl, ap, _∙_}
 use mathlib.Core.List.{List, [], _∷_, _++_}
-use Prim.Native.Nat.{ℕ, zero, suc, _+_, _-_, _≤_, _<_}
+use Prim.Native.Nat.{ℕ, suc, _+_, _-_, _≤_}
 use native.Mathlib.Nat.{add-zero, add-suc, suc-add}
 use native.Mathlib.Numerals.{add-one}
 use native.Mathlib.Omega.{arith}
-use lib.ListN.{length, set, take, drop, length-append}
-use lib.Seq.{length-take-le}
-use Rattle.pieces.specs.Records.{Read, whole, cut}
+use lib.ListN.{length, set}
+use Rattle.pieces.specs.Records.{Read, whole}
 use Rattle.pieces.specs.Writing.{put, padded, putLines}
 use Rattle.pieces.specs.Rows.{rowLines, marked}
-use Rattle.pieces.specs.Tables.{rowsIn, entries, tableEntries, tableLines, sumRows}
-use Rattle.pieces.specs.WriteLaws.{padded-all, padded-take}
+use Rattle.pieces.specs.Tables.{entries, tableLines, sumRows}
 use Rattle.pieces.specs.ClosedForms.{entries-many}
 
 -- ---- rows
-module _ (path : ℕ → List ℕ) (k N r : ℕ) (g n : ℕ) (cs : List ℕ) (ts : List Read) where
-  pub rows-turn : (b : List ℕ) → putLines k N r (rowLines path (whole g n cs ∷ ts)) b ≡ putLines k N (r + 1) (rowLines path ts) (put N b r (padded k (path g ++ cs)))
-  unfolding putLines rowLines
-  rows-turn b = rw add-one
-
 pub rows-done : (path : ℕ → List ℕ) (k N r : ℕ) (b : List ℕ) → putLines k N r (rowLines path []) b ≡ b
 unfolding putLines rowLines
 rows-done path k N r b = refl
@@ -35,17 +28,6 @@ unfolding marked
 marks-done u = refl
 
 -- ---- entries of one table
-pub entries-turn : (W N t r n j : ℕ) (cs b : List ℕ) → j < n → W ≤ length cs
-    → putLines (W + 1) N r (entries W t (n - j) cs) b ≡ putLines (W + 1) N (r + 1) (entries W t (n - (j + 1)) (drop W cs)) (put N b r (take W cs ++ (t ∷ [])))
-unfolding putLines entries
-entries-turn W N t r n j cs b h l =
-    let e : n - j ≡ suc (n - (j + 1)) = omega arith in
-    let q : length (take W cs ++ (t ∷ [])) ≡ W + 1 = omega (arith, length-append (take W cs) (t ∷ []), length-take-le W cs l) in
-    let w : padded (W + 1) (padded W cs ++ (t ∷ [])) ≡ take W cs ++ (t ∷ []) = ap (λ (x : List ℕ). padded (W + 1) (x ++ (t ∷ []))) (padded-take W cs l) ∙ padded-all (W + 1) (take W cs ++ (t ∷ [])) q in
-    ap (λ (m : ℕ). putLines (W + 1) N r (entries W t m cs) b) e
-    ∙ ap (λ (x : List ℕ). putLines (W + 1) N (suc r) (entries W t (n - (j + 1)) (drop W cs)) (put N b r x)) w
-    ∙ ap (λ (k : ℕ). putLines (W + 1) N k (entries W t (n - (j + 1)) (drop W cs)) (put N b r (take W cs ++ (t ∷ [])))) (sym (add-one r))
-
 pub entries-done : (W N t r n j : ℕ) (cs b : List ℕ) → n ≤ j → putLines (W + 1) N r (entries W t (n - j) cs) b ≡ b
 unfolding putLines entries
 entries-done W N t r n j cs b h = let e : n - j ≡ 0 = omega arith in rw e

@@ -96,7 +96,7 @@ returns c =
     record {
       many-is = refl;
       spells-paths = record { spells = λ g h. record { digits = w .digits g; bits-are = words g h .bits-are; steps-are = words g h .steps-are } };
-      room = record { short = λ g h. omega (arith, words g h .steps-are, w .short g); fits = λ g h. omega (arith, words g h .steps-are, o g h, w .fits g h) };
+      room = record { fits = λ g h. omega (arith, words g h .steps-are, o g h, w .fits g h) };
       own-is = o;
     }
 

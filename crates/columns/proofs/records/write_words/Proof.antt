@@ -1,30 +1,24 @@
 -- `columns::records::write_words` meets its contract. What is left to put from the present buffer is what the whole put gives.
 -- Assumes nothing.
 use borrow.Author.Needs.{needs}
-use mathlib.Core.Path.{_≡_, refl, sym, ap, _∙_}
+use mathlib.Core.Path.{_≡_, refl, sym, _∙_}
+use native.Mathlib.Nat.{add-zero}
 use native.Mathlib.Omega.{arith}
-use Prim.Native.Nat.{ℕ, _+_, _-_, _*_, _<_, _≤_}
-use Rattle.columns.proofs.Strides.{Stride, stride-begin, stride-in, stride-next}
+use Prim.Native.Nat.{_+_, _-_}
 use Rattle.pieces.specs.Writing.{put}
 use Rattle.pieces.specs.WriteLaws.{put-turn, put-done}
-use lib.ListN.{length, getD, drop, set, length-set}
+use lib.ListN.{length, drop, length-set}
 use Rattle.columns.proofs.records.write_words.Statement.{statement}
 use Rattle.columns.proofs.records.write_words.Tie as tie
 
 abbrev Inv-loop : tie.InvT-loop
-Inv-loop step at words buffer₀ place₀ i₀ buffer place i = Stride (length words) step (length buffer₀) i place × (length buffer ≡ length buffer₀) × (put step buffer₀ at words ≡ put step buffer place (drop i words))
+Inv-loop at words buffer₀ i₀ buffer i = (length buffer ≡ length buffer₀) × (put 1 buffer₀ at words ≡ put 1 buffer (at + i) (drop i words))
 
 abbrev μ-loop : tie.MeasureT-loop
-μ-loop step at words buffer₀ place₀ i₀ buffer place i = length words - i
+μ-loop at words buffer₀ i₀ buffer i = length words - i
 
 loop-holds : tie.Need-loop-holds Inv-loop μ-loop
-loop-holds c = (stride-begin (length (c .args .words .now)) (c .args .step) (length (c .args .buffer .now)) (c .args .at) (c .pre .1), refl, refl)
-
--- the present place is in the buffer
-inside : (c : tie.In-loop Inv-loop μ-loop) → c .before .loop .place < length (c .before .before .args .buffer .now)
-inside c =
-    let l = c .before .loop in
-    stride-in (length (c .before .before .args .words .now)) (c .before .before .args .step) _ (l .i) (l .place) (l .inv .0) (c .loop-test .taken)
+loop-holds c = (refl, rw add-zero)
 
 mul-buffer : tie.Need-mul-buffer Inv-loop μ-loop
 mul-buffer c = search needs
@@ -32,14 +26,14 @@ mul-buffer c = search needs
 shared-slice-read-buffer : tie.Need-shared-slice-read-buffer Inv-loop μ-loop
 shared-slice-read-buffer c = search needs
 
+add-buffer : tie.Need-add-buffer Inv-loop μ-loop
+add-buffer c = search needs
+
 mul-buffer-2 : tie.Need-mul-buffer-2 Inv-loop μ-loop
-mul-buffer-2 c = omega (arith, inside (c .before), c .before .before .loop .inv .1)
+mul-buffer-2 c = search needs
 
 slice-write-buffer : tie.Need-slice-write-buffer Inv-loop μ-loop
-slice-write-buffer c = omega (arith, inside (c .before), c .before .before .loop .inv .1)
-
-add-place : tie.Need-add-place Inv-loop μ-loop
-add-place c = omega (arith, inside (c .before), c .before .before .before .pre .0)
+slice-write-buffer c = search needs
 
 add-i : tie.Need-add-i Inv-loop μ-loop
 add-i c = search needs
@@ -51,16 +45,17 @@ loop-again : tie.Need-loop-again Inv-loop μ-loop
 loop-again c =
     let l = c .before .before .loop in
     let a = c .before .before .before .args in
-    (stride-next (length (a .words .now)) (a .step) _ (l .i) (l .place) (l .inv .0) (c .before .loop-test .taken), simp length-set (l .inv .1), l .inv .2 ∙ put-turn (a .step) (l .buffer) (l .place) (a .words .now) (l .i) (c .before .loop-test .taken))
+    let z : a .at + l .i + 1 ≡ a .at + (l .i + 1) = omega arith in
+    (simp length-set (l .inv .0), l .inv .1 ∙ rw z at (put-turn 1 (l .buffer) (a .at + l .i) (a .words .now) (l .i) (c .before .loop-test .taken)))
 
 same-length : tie.Need-same-length Inv-loop μ-loop
-same-length c = c .before .loop .inv .1
+same-length c = c .before .loop .inv .0
 
 returns : tie.Need-returns Inv-loop μ-loop
 returns c =
     let l = c .before .loop in
     let a = c .before .before .args in
-    sym (l .inv .2 ∙ put-done (a .step) (l .buffer) (l .place) (a .words .now) (l .i) (omega arith))
+    sym (l .inv .1 ∙ put-done 1 (l .buffer) (a .at + l .i) (a .words .now) (l .i) (c .loop-test .left))
 
 pub write-words-spec : {M : Type 1} → statement M
 write-words-spec =
@@ -71,9 +66,9 @@ write-words-spec =
     loop-holds
     mul-buffer
     shared-slice-read-buffer
+    add-buffer
     mul-buffer-2
     slice-write-buffer
-    add-place
     add-i
     loop-less
     loop-again

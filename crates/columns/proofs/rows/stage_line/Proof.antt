@@ -55,8 +55,8 @@ returns c =
     let same = c .write-same in
     let words = c .before .before .write-words in
     let path = c .before .before .before .before .write-path in (
-      λ way q. line-by (a .height) (a .at) (a .stage .now) _ _ _ way (a .words .now) (a .bits) (a .steps) q (s .pre .2) (path .ensures) (words .ensures) (same .ensures),
-      same .kept .1 .1 .1 .1 .0 ∙ words .kept .1 .1 .1 .0 ∙ path .kept .1 .1 .1 .1 .0 ∙ s .pre .3,
+      λ way q. line-by (a .height) (a .at) (a .stage .now) _ _ _ way (a .words .now) (a .bits) (a .steps) q (s .pre .1) (path .ensures) (words .ensures) (same .ensures),
+      same .kept .1 .1 .1 .0 ∙ words .kept .1 .1 .0 ∙ path .kept .1 .1 .1 .0 ∙ s .pre .2,
     )
 
 pub stage-line-spec : {M : Type 1} → statement M

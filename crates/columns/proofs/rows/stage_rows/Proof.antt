@@ -88,7 +88,7 @@ stage-line-requires c κs =
     let t = turn (c .before .before .before .before .before .before) in
     let n = part-length (a .piece .now) (l .i + 2) (getD (a .piece .now) (l .i + 1) 0) (omega (arith, t .two, t .fits)) in
     let h : l .rows < 16 = c .before .before .before .before .before .before .before .loop-test .taken in
-    (s .pre .0 .0, omega (arith, h, s .pre .0 .0), omega (arith, n, t .room), l .inv .long)
+    (omega (arith, h, s .pre .0 .0), omega (arith, n, t .room), l .inv .long)
 
 add-rows : tie.Need-add-rows Inv-loop μ-loop
 add-rows c = omega (arith, c .before .before .before .before .before .before .before .before .loop-test .taken)

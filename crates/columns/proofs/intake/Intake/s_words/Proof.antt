@@ -100,11 +100,7 @@ add-at c =
     let k = small (q .constants) (q .trace) 47 (w .height) (w .ranges .long) in omega (arith, k, m, ends (c .before .before))
 
 write-words-requires : tie.Need-write-words-requires
-write-words-requires c κs =
-    let q = c .before .before .before .before .before .before .before .before .before .before .before .before .before .before .args .self .plan in
-    let w = fine (c .before .before .before .before .before .before .before .before .before .before) in
-    let m = small (q .specialised) (q .trace) 16 (w .special) (w .ranges .long) in
-    let k = small (q .constants) (q .trace) 47 (w .height) (w .ranges .long) in (omega arith, omega (arith, ends (c .before .before .before), c .before .before .before .before .before .before .if2 .left, c .before .before .before .before .before .before .before .before .rooms-of .ensures .constants-are))
+write-words-requires c κs = omega (arith, ends (c .before .before .before), c .before .before .before .before .before .before .if2 .left, c .before .before .before .before .before .before .before .before .rooms-of .ensures .constants-are)
 
 add-self : tie.Need-add-self
 add-self c =
