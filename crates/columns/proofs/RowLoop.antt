@@ -1,15 +1,13 @@
 -- The loops over the records of a rows piece: the records that are left, from the present row on, give what the whole piece gives. Assumes nothing.
 use mathlib.Core.Path.{_≡_, refl, sym, ap, _∙_}
-use mathlib.Core.Logic.{_≢_}
 use mathlib.Core.List.{List, [], _∷_}
-use Prim.Native.Nat.{ℕ, suc, _+_, _-_, _≤_, _<_}
-use native.Mathlib.Numerals.{add-one}
+use Prim.Native.Nat.{ℕ, _+_, _-_, _≤_, _<_}
 use native.Mathlib.Omega.{arith}
 use lib.ListN.{length, getD, set, take, drop}
-use Rattle.pieces.specs.Records.{Read, whole, cut, rowSize, rowsOf}
-use Rattle.pieces.specs.Rows.{rowFault, rowsFault, marked}
-use Rattle.pieces.specs.RecordLaws.{Rest, rest-begin, rest-done, rest-whole, fault-head, going}
-use Rattle.pieces.specs.FaultLaws.{RowFine, row-cut, row-fine, rows-own-same}
+use Rattle.pieces.specs.Records.{Read, whole, rowSize, rowsOf}
+use Rattle.pieces.specs.Rows.{rowsFault, marked}
+use Rattle.pieces.specs.RecordLaws.{Rest, rest-begin, rest-done, rest-whole}
+use Rattle.pieces.specs.FaultLaws.{rows-own-same}
 use Rattle.pieces.specs.LineLaws.{marks-turn, marks-done}
 use Rattle.selector.specs.Gates.{constantsOf}
 use Rattle.tree.specs.Plan.{gatesGiven, planExtra}
@@ -18,31 +16,18 @@ use Rattle.columns.specs.Placed.{GatesOf}
 use Rattle.columns.specs.declared.rows.GateRows.{GateRows}
 
 module _ (count : ℕ) (piece : List ℕ) where
-  -- the records that are left; gates, constants and trace are whatever the piece has no fault with
+  -- the records that are left
   pub record Counting (row i : ℕ) : Type 0 where
     pub within : i ≤ length piece
     pub left : List Read
     pub rest : Rest rowSize piece i left
     pub counted : row + length left ≡ count + length (rowsOf piece)
-    pub fine : (many : ℕ) (own : ℕ → ℕ) (trace : ℕ) → rowsFault many own trace count (rowsOf piece) ≡ 0 → rowsFault many own trace row left ≡ 0
 
   pub counting-begin : Counting count 0
   unfolding rowsOf
-  counting-begin = record { within = omega arith; left = rowsOf piece; rest = rest-begin rowSize piece; counted = refl; fine = λ many own trace e. e }
-
-  -- what is known of the record at the front
-  pub record Front (many : ℕ) (own : ℕ → ℕ) (trace row i : ℕ) : Type 0 where
-    pub two : i + 1 < length piece
-    pub fits : getD piece (i + 1) 0 ≤ length piece - (i + 2)
-    pub is : RowFine many own trace row (getD piece i 0) (getD piece (i + 1) 0) (take (getD piece (i + 1) 0) (drop (i + 2) piece))
+  counting-begin = record { within = omega arith; left = rowsOf piece; rest = rest-begin rowSize piece; counted = refl }
 
   module _ (row i : ℕ) (w : Counting row i) where
-    pub counting-front : (many : ℕ) (own : ℕ → ℕ) (trace : ℕ) → rowsFault many own trace count (rowsOf piece) ≡ 0 → i < length piece → Front many own trace row i
-    counting-front many own trace e h =
-        let bad : rowFault many own trace row cut ≢ 0 = λ z. omega (arith, z, row-cut many own trace row) in
-        let g = going rowSize (rowFault many own trace) (λ r _. suc r) piece row i (w .left) (w .rest) bad (w .fine many own trace e) h in
-        record { two = g .two; fits = g .fits; is = row-fine many own trace row (getD piece i 0) (getD piece (i + 1) 0) _ (g .good) }
-
     module _ (two : i + 1 < length piece) (fits : getD piece (i + 1) 0 ≤ length piece - (i + 2)) where
       abbrev g : ℕ
       g = getD piece i 0
@@ -61,7 +46,6 @@ module _ (count : ℕ) (piece : List ℕ) where
             left = n .later;
             rest = n .rest;
             counted = omega (arith, w .counted, ap length (n .split));
-            fine = λ many own trace e. rw add-one (fault-head (rowFault many own trace) (λ r _. suc r) row (whole g k cs) (n .later) (ap (rowsFault many own trace row) (sym (n .split)) ∙ w .fine many own trace e) .1);
           }
 
       -- the record at the front and those after it

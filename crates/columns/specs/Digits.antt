@@ -24,9 +24,6 @@ pub record Left (path : List ℕ) (rest i : ℕ) : Type 0 where
 pub left-begin : (path : List ℕ) (bits steps : ℕ) → Spelled path bits steps → Left path bits 0
 left-begin path bits steps s = record { bits-left = s .bits-are; digits-left = s .digits }
 
-digit-split : (d r : ℕ) → d < 2 → ((r * 2 + d) % 2 ≡ d) × ((r * 2 + d) / 2 ≡ r)
-digit-split d r h = (omega arith, omega arith)
-
 left-step : (path : List ℕ) (rest i d : ℕ) (ds : List ℕ) → drop i path ≡ d ∷ ds → Left path rest i → (rest % 2 ≡ d) × (rest / 2 ≡ bitsOf ds) × Each (λ (d : ℕ). d < 2) ds
 unfolding bitsOf
 left-step path rest i d ds e l =

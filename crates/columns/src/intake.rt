@@ -186,9 +186,10 @@ impl Intake {
             return refused(number, zero);
         }
         let rooms = rooms_of(plan);
-        clear(rooms.constants, constants);
-        clear(rooms.scratch, scratch);
         clear(rooms.tables, tables);
+        clear(rooms.scratch, scratch);
+        // last, since rows are what mostly comes next: they find these words in the cache
+        clear(rooms.constants, constants);
         Taken {
             number: 0,
             state: Intake::start(plan, OPEN),

@@ -141,7 +141,7 @@ clear-requires c κs =
     let a = c .before .before .before .before .before .before .before .before .before .before .before .before .before .before .before .before .before .before .before .before .before .args in
     let q = a .plan in
     let b = storeOf (a .constants .now) (a .copies .now) (a .scratch .now) (a .tables .now) in
-    omega (arith, opened-long q b (room (c .before .before .before .before .before .before .before)) .0, c .before .rooms-of .ensures .constants-are)
+    omega (arith, opened-long q b (room (c .before .before .before .before .before .before .before)) .3, c .before .rooms-of .ensures .tables-are)
 
 clear-requires-2 : tie.Need-clear-requires-2
 clear-requires-2 c κs =
@@ -155,7 +155,7 @@ clear-requires-3 c κs =
     let a = c .before .before .before .before .before .before .before .before .before .before .before .before .before .before .before .before .before .before .before .before .before .before .before .before .before .before .before .before .before .args in
     let q = a .plan in
     let b = storeOf (a .constants .now) (a .copies .now) (a .scratch .now) (a .tables .now) in
-    omega (arith, opened-long q b (room (c .before .before .before .before .before .before .before .before .before .before .before .before .before .before .before)) .3, c .before .before .before .before .before .before .before .before .before .rooms-of .ensures .tables-are)
+    omega (arith, opened-long q b (room (c .before .before .before .before .before .before .before .before .before .before .before .before .before .before .before)) .0, c .before .before .before .before .before .before .before .before .before .rooms-of .ensures .constants-are)
 
 start-requires-2 : tie.Need-start-requires-2
 start-requires-2 c κs = search needs
@@ -188,7 +188,7 @@ returns-4 c =
     let k = open-taken q b (number-is (c .before .before .before .before .before .before .before .before .before .before .before .before .before .before .before .before .before) ∙ c .before .before .before .before .before .before .before .before .before .before .before .before .before .before .if3 .left) in
     let labelled = f .ensures .1 ∙ written-is (q .trace) (q .copy) (a .copies .now) (sym (f .ensures .0) ∙ c .before .before .before .before .before .before .before .before .before .before .before .before .before .before .if3 .left) in (
       as-taken (c .start2 .ensures) ∙ k .0,
-      four (c .before .before .before .before .before .before .before .before .before .before .before .clear .ensures ∙ ap (λ (n : ℕ). cleared n (a .constants .now)) (r .constants-are)) labelled (c .before .before .before .before .before .before .before .clear2 .ensures ∙ ap (λ (n : ℕ). cleared n (a .scratch .now)) (r .scratch-is)) (c .before .before .before .clear3 .ensures ∙ ap (λ (n : ℕ). cleared n (a .tables .now)) (r .tables-are)) ∙ k .1,
+      four (c .before .before .before .clear3 .ensures ∙ ap (λ (n : ℕ). cleared n (a .constants .now)) (r .constants-are)) labelled (c .before .before .before .before .before .before .before .clear2 .ensures ∙ ap (λ (n : ℕ). cleared n (a .scratch .now)) (r .scratch-is)) (c .before .before .before .before .before .before .before .before .before .before .before .clear .ensures ∙ ap (λ (n : ℕ). cleared n (a .tables .now)) (r .tables-are)) ∙ k .1,
     )
 
 pub open-spec : {M : Type 1} → statement M
