@@ -9,4 +9,5 @@ pub mod Modular
 pub mod Powers
 pub mod Roots
 pub mod Fills
+pub mod Quarters
 pub mod Cosets

@@ -12,6 +12,10 @@ abbrev pub pick {ℓ} : {A : Type ℓ} → Bool → A → A → A
 pick true a b = a
 pick false a b = b
 
+-- a test's value is one of the two
+pub true-not-false : {A : Type 0} → true ≡ false → A
+true-not-false e = absurd (let z : _≡_ {A = ℕ} 0 1 = cc in omega arith)
+
 -- both tests hold
 abbrev pub both : Bool → Bool → Bool
 both a b = pick a b false

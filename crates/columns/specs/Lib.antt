@@ -3,6 +3,7 @@ pub mod Digits
 pub mod Lines
 pub mod Placed
 pub mod Stacked
+pub mod Quick
 pub mod TreeLaws
 pub mod PlanLaws
 pub mod Intake

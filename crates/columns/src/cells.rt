@@ -5,6 +5,8 @@ ghost use Prim.Native.Nat.{ℕ, _+_, _*_, _<_, _≤_};
 ghost use lib.ListN.{length, getD};
 ghost use Rattle.pieces.specs.Setting.{cols};
 ghost use Rattle.pieces.specs.Cells.{placeholder, indexOf, cellFault, cellsFault, placeCell, cellsRun};
+ghost use Rattle.base.specs.Quarters.{Fourfold};
+ghost use Rattle.columns.specs.Quick.{Named};
 use cs::Variable;
 
 // The number of one cell word, 0 where it has no fault.
@@ -51,19 +53,32 @@ fn is_named(vars: u64, word: u64) -> u64
     std::num::wrapping_sub_u64(Variable(word).as_variable_index(), bound) >> 63
 }
 
+// How many of the words at place `at` and one, two and three times `step` behind it are so.
+fn four_named(vars: u64, piece: &[u64], at: usize, step: usize) -> u64
+    requires { ⌜ (vars ≤ 4294967296) × (at + 3 * step < length (now piece)) ⌝ }
+    ensures { λ r. ⌜ (r ≤ 4) × (r ≡ 4 → Fourfold (Named vars (now (piece .entry))) step at) ⌝ }
+{
+    let near = is_named(vars, piece[at]) + is_named(vars, piece[at + step]);
+    let far = is_named(vars, piece[at + 2 * step]) + is_named(vars, piece[at + 3 * step]);
+    near + far
+}
+
 // Whether every word is a placeholder or the index of a variable, so that none is faulty in a cell of
-// the section. The loop runs to its end and has no branch: the compiler takes several words at a time.
+// the section. The loop runs to its end and has no branch, so that the compiler takes several words at
+// a time, and it walks four quarters side by side, as the test for words below p does.
 fn all_named(vars: u64, piece: &[u64]) -> bool
     requires { ⌜ vars ≤ 4294967296 ⌝ }
     ensures { λ r. ⌜ (r ≡ true → (total k : ℕ) → k + length (now (piece .entry)) ≤ total → cellsFault total vars k (now (piece .entry)) ≡ 0) ⌝ }
 {
+    let step = piece.len() / 4;
+    let turns = piece.len() - 3 * step;
     let mut named: u64 = 0;
     let mut i = 0;
-    while i < piece.len() {
-        named = named + is_named(vars, piece[i]);
+    while i < turns {
+        named = named + four_named(vars, piece, i, step);
         i = i + 1;
     }
-    named == piece.len() as u64
+    named / 4 == turns as u64
 }
 
 // The number of the first faulty word of a piece.

@@ -4,6 +4,8 @@ ghost use mathlib.Core.Path.{_≡_};
 ghost use mathlib.Core.Bool.{true};
 ghost use Prim.Native.Nat.{ℕ, _+_, _*_, _<_, _≤_};
 ghost use lib.ListN.{length};
+ghost use Rattle.base.specs.Quarters.{Fourfold};
+ghost use Rattle.columns.specs.Quick.{Within};
 ghost use Rattle.pieces.specs.Finishing.{allUsed, variableFine, scratchFine, writeBack, finishFrom};
 
 // Whether each of the `many` gates is in some row.
@@ -53,23 +55,50 @@ fn each_fine(variables: u64, cells: u64, scratch: &[u64]) -> bool
     true
 }
 
-// Whether every variable, seen or not, has a value below p and a first cell of `cells`: so it is after
-// opening and cells, which leave an unseen variable's words 0. That a variable is seen is not asked,
-// since the processor cannot foretell it.
+// Whether a variable, seen or not, has a value below p and a first cell of `cells`. That it is seen is
+// not asked, since the processor cannot foretell it.
+fn is_within(cells: u64, v: usize, scratch: &[u64]) -> bool
+    requires { ⌜ 2 * v + 1 < length (now scratch) ⌝ }
+    ensures { λ r. ⌜ (r ≡ true → Within cells (now (scratch .entry)) v) ⌝ }
+{
+    let at = 2 * v;
+    if field::P <= scratch[at] {
+        return false;
+    }
+    scratch[at + 1] < cells
+}
+
+// The same for four variables, each `step` behind the one before.
+fn four_within(cells: u64, v: usize, step: usize, scratch: &[u64]) -> bool
+    requires { ⌜ 2 * (v + 3 * step) + 1 < length (now scratch) ⌝ }
+    ensures { λ r. ⌜ (r ≡ true → Fourfold (Within cells (now (scratch .entry))) step v) ⌝ }
+{
+    if is_within(cells, v, scratch) {
+        if is_within(cells, v + step, scratch) {
+            if is_within(cells, v + 2 * step, scratch) {
+                return is_within(cells, v + 3 * step, scratch);
+            }
+        }
+    }
+    false
+}
+
+// Whether every variable is so, as after opening and cells, which leave an unseen variable's words 0.
+// Four quarters are walked side by side, as in the test for words below p.
 fn all_within(variables: u64, cells: u64, scratch: &[u64]) -> bool
     requires { ⌜ (variables ≤ 1048576) × (2 * variables ≤ length (now scratch)) ⌝ }
     ensures { λ r. ⌜ (r ≡ true → scratchFine variables cells (now (scratch .entry)) ≡ true) ⌝ }
 {
-    let mut v: u64 = 0;
-    while v < variables {
-        let at = 2 * v as usize;
-        if field::P <= scratch[at] {
+    let many = variables as usize;
+    let step = many / 4;
+    let turns = many - 3 * step;
+    let mut v = 0;
+    while v < turns {
+        if four_within(cells, v, step, scratch) {
+            v = v + 1;
+        } else {
             return false;
         }
-        if cells <= scratch[at + 1] {
-            return false;
-        }
-        v = v + 1;
     }
     true
 }

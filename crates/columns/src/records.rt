@@ -5,57 +5,47 @@ ghost use mathlib.Core.List.{List};
 ghost use Prim.Native.Nat.{ℕ, _+_, _*_, _<_, _≤_};
 ghost use lib.ListN.{length, take, drop, replicate};
 ghost use Rattle.field.specs.Field.{p};
+ghost use Rattle.base.specs.Quarters.{Fourfold};
 ghost use Rattle.pieces.specs.Records.{allBelow};
+ghost use Rattle.pieces.specs.RecordLaws.{Below};
 ghost use Rattle.pieces.specs.Writing.{put, putLines};
 ghost use Rattle.columns.specs.Digits.{Left};
 ghost use Rattle.columns.specs.Lines.{strided, cutLines};
 
-// Whether the four words from place `at` on are below p.
-fn four_below(words: &[u64], at: usize) -> bool
-    requires { ⌜ at + 4 ≤ length (now words) ⌝ }
-    ensures { λ r. ⌜ (r ≡ true → allBelow p (drop at (now (words .entry))) ≡ allBelow p (drop (at + 4) (now (words .entry)))) ⌝ }
-    ensures { λ r. ⌜ (r ≡ false → allBelow p (drop at (now (words .entry))) ≡ false) ⌝ }
+// Whether the words at place `at` and one, two and three times `step` behind it are below p.
+fn four_below(words: &[u64], at: usize, step: usize) -> bool
+    requires { ⌜ at + 3 * step < length (now words) ⌝ }
+    ensures { λ r. ⌜ (r ≡ true → Fourfold (Below p (now (words .entry))) step at) ⌝ }
+    ensures { λ r. ⌜ (r ≡ false → allBelow p (now (words .entry)) ≡ false) ⌝ }
 {
     if field::P <= words[at] {
         return false;
     }
-    if field::P <= words[at + 1] {
+    if field::P <= words[at + step] {
         return false;
     }
-    if field::P <= words[at + 2] {
+    if field::P <= words[at + 2 * step] {
         return false;
     }
-    words[at + 3] < field::P
+    words[at + 3 * step] < field::P
 }
 
-// Whether every word from place `from` on is below p.
-fn below_from(words: &[u64], from: usize) -> bool
-    requires { ⌜ from ≤ length (now words) ⌝ }
-    ensures { λ r. ⌜ r ≡ allBelow p (drop from (now (words .entry))) ⌝ }
-{
-    let mut i = from;
-    while i < words.len() {
-        if field::P <= words[i] {
-            return false;
-        }
-        i = i + 1;
-    }
-    true
-}
-
-// Whether every word is below p: four words a turn, since the turn costs as much as the test.
+// Whether every word is below p. Four quarters are walked side by side, since the memory brings four
+// streams sooner than one; the last one has up to three words more, and the others go as far.
 pub(crate) fn all_below(words: &[u64]) -> bool
     ensures { λ r. ⌜ r ≡ allBelow p (now (words .entry)) ⌝ }
 {
+    let step = words.len() / 4;
+    let turns = words.len() - 3 * step;
     let mut i = 0;
-    while 4 <= words.len() - i {
-        if four_below(words, i) {
-            i = i + 4;
+    while i < turns {
+        if four_below(words, i, step) {
+            i = i + 1;
         } else {
             return false;
         }
     }
-    below_from(words, i)
+    true
 }
 
 // Words at consecutive places from `at` on.

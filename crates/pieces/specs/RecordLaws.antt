@@ -2,7 +2,7 @@
 --
 -- Main definitions: `Each`, `Whole`, `Sized`, `Rest` (the records that a loop has still to read).
 -- Main statements: `fault-head`, `fault-each` (what no fault says), `read-append` (pieces put end to end), and for loops `first-turn`, `count-turn`, `first-found`, `first-done`,
--- `rest-begin`, `rest-whole`, `rest-cut`, `rest-done`, `rest-front`, `below-turn`.
+-- `rest-begin`, `rest-whole`, `rest-cut`, `rest-done`, `rest-front`; `below-all`, `below-each`, `below-not`.
 use mathlib.Core.Path.{_≡_, refl, sym, ap, _∙_}
 use mathlib.Core.Logic.{_≢_}
 use mathlib.Core.Bool.{Bool, true, false}
@@ -15,8 +15,8 @@ use native.Mathlib.Omega.{arith}
 use lib.ListN.{length, getD, take, drop, length-drop, length-append}
 use lib.Seq.{length-take-le, drop-append-le, take-append-le, drop-drop, getD-drop}
 use lib.Dec.{ltb, leb, eqb}
-use borrow.Author.Tests.{lt-ltb, le-ltb, le-leb, lt-leb, eq-eqb, ne-eqb}
-use Rattle.base.specs.Pick.{pick}
+use borrow.Author.Tests.{lt-ltb, le-leb, lt-leb, ltb-true, eq-eqb, ne-eqb}
+use Rattle.base.specs.Pick.{pick, both-true}
 use Rattle.base.specs.Drops.{drop-none, drop-one, drop-two, drop-last}
 use Rattle.pieces.specs.Records.{Read, whole, cut, readBy, front, firstFault, allBelow}
 
@@ -147,19 +147,28 @@ pub count-turn : (fault : ℕ → ℕ → ℕ) (k : ℕ) (ws : List ℕ) (i : �
     → firstFault fault (λ k _. suc k) k (drop i ws) ≡ firstFault fault (λ k _. suc k) (k + 1) (drop (i + 1) ws)
 count-turn fault k ws i h e = rw add-one (first-turn fault (λ k _. suc k) k ws i h e)
 
--- ---- a loop over words that looks for one not below n
-module _ (n : ℕ) (ws : List ℕ) (i : ℕ) where
-  pub below-done : length ws ≤ i → allBelow n (drop i ws) ≡ true
-  unfolding allBelow
-  below-done h = ap (allBelow n) (drop-none ws i h)
+-- ---- words that are below n, and one that is not
+-- the word at place j is below n
+abbrev pub Below : ℕ → List ℕ → ℕ → Type 0
+Below n ws j = getD ws j 0 < n
 
-  pub below-turn : i < length ws → getD ws i 0 < n → allBelow n (drop i ws) ≡ allBelow n (drop (i + 1) ws)
-  unfolding allBelow
-  below-turn h l = ap (allBelow n) (drop-one ws i h) ∙ rw (lt-ltb (getD ws i 0) n l)
+pub below-all : (n : ℕ) (ws : List ℕ) → ((j : ℕ) → j < length ws → Below n ws j) → allBelow n ws ≡ true
+unfolding allBelow
+below-all n [] h = refl
+below-all n (w ∷ ws) h = rw (lt-ltb w n (h 0 (omega arith))) (below-all n ws (λ j l. h (suc j) (omega arith)))
 
-  pub below-found : i < length ws → n ≤ getD ws i 0 → allBelow n (drop i ws) ≡ false
-  unfolding allBelow
-  below-found h l = ap (allBelow n) (drop-one ws i h) ∙ rw (le-ltb (getD ws i 0) n l)
+pub below-each : (n : ℕ) (ws : List ℕ) → allBelow n ws ≡ true → (j : ℕ) → j < length ws → Below n ws j
+unfolding allBelow
+below-each n [] e j l = absurd (not-suc-le-zero l)
+below-each n (w ∷ ws) e zero l = ltb-true w n (both-true (ltb w n) (allBelow n ws) e .0)
+below-each n (w ∷ ws) e (suc j) l = below-each n ws (both-true (ltb w n) (allBelow n ws) e .1) j (le-of-suc-le-suc l)
+
+pub below-not : (n : ℕ) (ws : List ℕ) (j : ℕ) → j < length ws → n ≤ getD ws j 0 → allBelow n ws ≡ false
+below-not n ws j l h = go (allBelow n ws) refl
+  where
+    go : (b : Bool) → allBelow n ws ≡ b → allBelow n ws ≡ false
+    go true e = absurd (omega (arith, below-each n ws e j l))
+    go false e = e
 
 -- ---- a loop over records: those from the word i on. The turns stand in no variable of the code
 pub record Rest (size : ℕ → ℕ → ℕ) (ws : List ℕ) (i : ℕ) (rs : List Read) : Type 0 where

@@ -1,75 +1,71 @@
--- `columns::cells::all_named` meets its contract. At most one word is counted a turn: where as many are counted as were read, each of them is fine.
+-- `columns::cells::all_named` meets its contract. At most four words are counted a turn: where four are counted each turn, each of them is fine, and the four quarters are all words.
 -- Assumes nothing.
 use borrow.Author.Needs.{needs}
-use mathlib.Core.Path.{_≡_, refl, sym, ap, _∙_}
-use Prim.Native.Nat.{ℕ, suc, _+_, _-_, _≤_, _<_}
-use native.Mathlib.Decide.{decLt}
+use mathlib.Core.Path.{_≡_, refl, sym}
 use native.Mathlib.Omega.{arith}
-use lib.ListN.{length, getD, drop}
+use Prim.Native.Nat.{_+_, _-_, _*_, _/_, _≤_}
+use lib.ListN.{length}
 use borrow.Author.Tests.{eqb-true}
-use Rattle.pieces.specs.Cells.{placeholder, indexOf, cellFault, cellsFault}
-use Rattle.pieces.specs.CellLaws.{cell-still, cell-good}
-use Rattle.pieces.specs.RecordLaws.{first-done, count-turn}
+use Rattle.base.specs.Quarters.{Quarters, quarters-none, quarters-turn, quarters-all}
+use Rattle.columns.specs.Quick.{Named, named-none}
 use Rattle.columns.proofs.cells.all_named.Statement.{statement}
 use Rattle.columns.proofs.cells.all_named.Tie as tie
+use Rattle.columns.proofs.cells.all_named.Reads as reads
+use Rattle.columns.proofs.cells.all_named.Lts as lts
+use Rattle.columns.proofs.cells.four_named.Reads as four-named-reads
 
 abbrev Inv-loop : tie.InvT-loop
-Inv-loop vars piece named₀ i₀ named i =
-    (i ≤ length piece) × (named ≤ i) × (named ≡ i → (total k : ℕ) → k + length piece ≤ total → cellsFault total vars k piece ≡ cellsFault total vars (k + i) (drop i piece))
+Inv-loop vars piece step turns named₀ i₀ named i = (i ≤ turns) × (named ≤ 4 * i) × (named ≡ 4 * i → Quarters (Named vars piece) step i)
 
 abbrev μ-loop : tie.MeasureT-loop
-μ-loop vars piece named₀ i₀ named i = length piece - i
+μ-loop vars piece step turns named₀ i₀ named i = turns - i
+
+mul-turns : tie.Need-mul-turns Inv-loop μ-loop
+mul-turns c = search needs
+
+sub-turns : tie.Need-sub-turns Inv-loop μ-loop
+sub-turns c = omega arith
 
 loop-holds : tie.Need-loop-holds Inv-loop μ-loop
-loop-holds c = (omega arith, omega arith, λ e total k h. let z : k + 0 ≡ k = omega arith in rw z)
+loop-holds c =
+    let a = c .before .args in
+    (omega arith, omega arith, λ _. quarters-none (Named (a .vars) (a .piece .now)) (length (a .piece .now) / 4))
 
-mul-is-named : tie.Need-mul-is-named Inv-loop μ-loop
-mul-is-named c = search needs
-
-shared-slice-read-is-named : tie.Need-shared-slice-read-is-named Inv-loop μ-loop
-shared-slice-read-is-named c = search needs
-
-is-named-requires : tie.Need-is-named-requires Inv-loop μ-loop
-is-named-requires c κs = search needs
+four-named-requires : tie.Need-four-named-requires Inv-loop μ-loop
+four-named-requires c κs = (c .before .before .before .pre, omega (arith, c .loop-test .taken))
 
 add-named : tie.Need-add-named Inv-loop μ-loop
-add-named c = omega (arith, c .is-named .ensures .0, c .before .before .before .loop .inv .0, c .before .before .before .loop .inv .1)
+add-named c = omega (arith, c .four-named .ensures .0, c .before .before .loop .inv .1, c .before .loop-test .taken)
 
 add-i : tie.Need-add-i Inv-loop μ-loop
 add-i c = search needs
 
 loop-less : tie.Need-loop-less Inv-loop μ-loop
-loop-less c = search needs
-
--- a word that is counted has no fault in a cell of the section
-fine : (total vars k w : ℕ) → k < total → (w < placeholder → indexOf w < vars) → cellFault total vars k w ≡ 0
-fine total vars k w h b = go (decLt w placeholder)
-  where
-    go : Dec (w < placeholder) → cellFault total vars k w ≡ 0
-    go (yes l) = cell-good total vars k w h l (b l)
-    go (no l) = cell-still total vars k w h (omega arith)
+loop-less c = omega (arith, c .before .loop-test .taken)
 
 loop-again : tie.Need-loop-again Inv-loop μ-loop
 loop-again c =
-    let a = c .before .before .before .before .before .args in
-    let l = c .before .before .before .loop in
-    let n = c .is-named .ensures in
-    let h : l .i < length (a .piece .now) = c .before .before .loop-test .taken in (
-      omega (arith, h),
-      omega (arith, n .0, l .inv .1),
-      λ e total k room.
-          let z : k + (l .i + 1) ≡ k + l .i + 1 = omega arith in
-          l .inv .2 (omega (arith, e, n .0, l .inv .1)) total k room
-          ∙ rw z (count-turn (cellFault total (a .vars)) (k + l .i) (a .piece .now) (l .i) h (fine total (a .vars) (k + l .i) (getD (a .piece .now) (l .i) 0) (omega (arith, h, room)) (n .1 (omega (arith, e, n .0, l .inv .1))))),
+    let a = c .before .before .before .before .args in
+    let l = c .before .before .loop in
+    let f = c .four-named .ensures in (
+      omega (arith, c .before .loop-test .taken),
+      omega (arith, l .inv .1, f .0),
+      λ e.
+          quarters-turn (Named (a .vars) (a .piece .now)) (length (a .piece .now) / 4) (l .i)
+          (l .inv .2 (omega (arith, e, l .inv .1, f .0)))
+          (f .1 (omega (arith, e, l .inv .1, f .0))),
     )
 
 returns : tie.Need-returns Inv-loop μ-loop
 returns c =
     let a = c .before .before .before .args in
+    let ws = a .piece .now in
     let l = c .before .loop in
     λ e total k room.
-    l .inv .2 (omega (arith, eqb-true (l .named) (length (a .piece .now)) e, c .loop-test .left, l .inv .0)) total k room
-    ∙ first-done (cellFault total (a .vars)) (λ k _. suc k) (k + l .i) (a .piece .now) (l .i) (omega (arith, c .loop-test .left))
+    let turns = length ws - 3 * (length ws / 4) in
+    let done : l .i ≡ turns = omega (arith, l .inv .0, c .loop-test .left) in
+    let q = l .inv .2 (omega (arith, done, eqb-true (l .named / 4) turns e, l .inv .1)) in
+    named-none total (a .vars) k ws (quarters-all (Named (a .vars) ws) (length ws) (rw done at q)) room
 
 pub all-named-spec : {M : Type 1} → statement M
 all-named-spec =
@@ -77,10 +73,10 @@ all-named-spec =
     (tie.spec
     Inv-loop
     μ-loop
+    mul-turns
+    sub-turns
     loop-holds
-    mul-is-named
-    shared-slice-read-is-named
-    is-named-requires
+    four-named-requires
     add-named
     add-i
     loop-less

@@ -1,0 +1,110 @@
+-- `columns::cells::four_named` meets its contract: four are counted only where each is.
+-- Assumes nothing.
+use native.Mathlib.Omega.{arith}
+use borrow.Author.Needs.{needs}
+use Rattle.columns.proofs.cells.four_named.Statement.{statement}
+use Rattle.columns.proofs.cells.four_named.Tie as tie
+use Rattle.columns.proofs.cells.four_named.Reads as reads
+use Rattle.columns.proofs.cells.four_named.Lts as lts
+use Rattle.columns.proofs.cells.is_named.Reads as is-named-reads
+
+mul-is-named : tie.Need-mul-is-named
+mul-is-named c = search needs
+
+shared-slice-read-is-named : tie.Need-shared-slice-read-is-named
+shared-slice-read-is-named c = search needs
+
+is-named-requires : tie.Need-is-named-requires
+is-named-requires c κs = search needs
+
+add-is-named : tie.Need-add-is-named
+add-is-named c = search needs
+
+mul-is-named-2 : tie.Need-mul-is-named-2
+mul-is-named-2 c = search needs
+
+shared-slice-read-is-named-2 : tie.Need-shared-slice-read-is-named-2
+shared-slice-read-is-named-2 c = search needs
+
+is-named-requires-2 : tie.Need-is-named-requires-2
+is-named-requires-2 c κs = search needs
+
+add-near : tie.Need-add-near
+add-near c = search needs
+
+mul-is-named-3 : tie.Need-mul-is-named-3
+mul-is-named-3 c = search needs
+
+add-is-named-2 : tie.Need-add-is-named-2
+add-is-named-2 c = search needs
+
+mul-is-named-4 : tie.Need-mul-is-named-4
+mul-is-named-4 c = search needs
+
+shared-slice-read-is-named-3 : tie.Need-shared-slice-read-is-named-3
+shared-slice-read-is-named-3 c = search needs
+
+is-named-requires-3 : tie.Need-is-named-requires-3
+is-named-requires-3 c κs = search needs
+
+mul-is-named-5 : tie.Need-mul-is-named-5
+mul-is-named-5 c = search needs
+
+add-is-named-3 : tie.Need-add-is-named-3
+add-is-named-3 c = search needs
+
+mul-is-named-6 : tie.Need-mul-is-named-6
+mul-is-named-6 c = search needs
+
+shared-slice-read-is-named-4 : tie.Need-shared-slice-read-is-named-4
+shared-slice-read-is-named-4 c = search needs
+
+is-named-requires-4 : tie.Need-is-named-requires-4
+is-named-requires-4 c κs = search needs
+
+add-far : tie.Need-add-far
+add-far c = search needs
+
+add-result : tie.Need-add-result
+add-result c = search needs
+
+returns : tie.Need-returns
+returns c =
+    let one = c .before .before .before .before .before .before .is-named .ensures in
+    let two = c .before .before .before .before .is-named2 .ensures in
+    let three = c .before .before .is-named3 .ensures in
+    let four = c .is-named4 .ensures in (
+      omega (arith, one .0, two .0, three .0, four .0),
+      λ e. (
+        one .1 (omega (arith, e, two .0, three .0, four .0, one .0)),
+        two .1 (omega (arith, e, two .0, three .0, four .0, one .0)),
+        three .1 (omega (arith, e, two .0, three .0, four .0, one .0)),
+        four .1 (omega (arith, e, two .0, three .0, four .0, one .0)),
+      ),
+    )
+
+pub four-named-spec : {M : Type 1} → statement M
+four-named-spec =
+    tie.close
+    (tie.spec
+    mul-is-named
+    shared-slice-read-is-named
+    is-named-requires
+    add-is-named
+    mul-is-named-2
+    shared-slice-read-is-named-2
+    is-named-requires-2
+    add-near
+    mul-is-named-3
+    add-is-named-2
+    mul-is-named-4
+    shared-slice-read-is-named-3
+    is-named-requires-3
+    mul-is-named-5
+    add-is-named-3
+    mul-is-named-6
+    shared-slice-read-is-named-4
+    is-named-requires-4
+    add-far
+    add-result
+    returns)
