@@ -9,15 +9,16 @@ use mathlib.Core.Option.{Option, none, some}
 use mathlib.Core.Path.{_∙_, _≡_, ap, refl, sym}
 use native.Mathlib.Decide.{ℕ-discrete, decLt}
 use native.Mathlib.Omega.{arith}
-use Rattle.base.specs.Fills.{Filled}
 use Rattle.base.specs.Tables.{table, table-at, table-length}
 use Rattle.selector.specs.MadeUp.{mostLevels}
 use Rattle.selector.specs.Nodes.{treeAt}
-use Rattle.selector.specs.Paths.{bitsOf, orEmpty, pathTo}
+use Rattle.selector.specs.Paths.{bitsOf, orEmpty, pathOf, pathTo}
+use Rattle.selector.specs.Refusals.{mostGates}
 use Rattle.selector.specs.Tree.{Tree}
-use Rattle.tree.specs.Placements.{spelled}
-use Rattle.tree.specs.Plan.{pathAnswer, planFault, planPath}
-use Rattle.tree.specs.PlanLaws.{fault-none}
+use Rattle.tree.proofs.PathsLaws.{Long, Read, placed-long, placed-read, unlisted-path}
+use Rattle.tree.specs.Placements.{PathWords, pathWords, placed, spelled}
+use Rattle.tree.specs.Plan.{pathAnswer, pathsAnswer, planFault, planPath}
+use Rattle.tree.specs.PlanLaws.{Faultless, fault-none}
 use Rattle.tree.specs.declared.paths.Placement.{Placement}
 use Rattle.tree.specs.declared.plan.Path.{Path}
 use Rattle.tree.specs.declared.plan.Plan.{Plan}
@@ -46,16 +47,64 @@ pub path-unlisted : (p : Plan) (g : ℕ) → planFault p ≡ 0 → p .«gate_cou
 unfolding pathAnswer
 path-unlisted p g f h = rw (eq-eqb (planFault p) 0 f, le-ltb g (p .«gate_count») h)
 
--- zeros filled with the first b values of a function that is 0 from b on
-pub filled-table : (f : ℕ → ℕ) (n b : ℕ) (new : List ℕ) → Filled f 0 b (replicate n 0) new → ((i : ℕ) → b ≤ i → f i ≡ 0) → new ≡ table n f
-filled-table f n b new h z = ext-getD 0 new (table n f) (long ∙ sym (table-length n f)) (λ i l. at i (omega (arith, l, long)) (decLt i b))
-  where
-    long : length new ≡ n
-    long = h .same-length ∙ length-replicate n 0
+-- no path yet
+abbrev pub zeroWords : PathWords
+zeroWords = pathWords (replicate mostGates 0) (replicate mostGates 0)
 
-    at : (i : ℕ) → i < n → Dec (i < b) → getD new i 0 ≡ getD (table n f) i 0
-    at i l (yes d) = h .inside i (omega arith) d ∙ sym (table-at n f i l)
-    at i l (no d) = h .beyond i (omega arith) ∙ getD-replicate n i 0 0 l ∙ sym (table-at n f i l ∙ z i (omega arith))
+-- words that are a function's values are its table
+table-by : (f : ℕ → ℕ) (n : ℕ) (new : List ℕ) → length new ≡ n → ((i : ℕ) → i < n → getD new i 0 ≡ f i) → new ≡ table n f
+table-by f n new long at =
+    ext-getD 0 new (table n f) (long ∙ sym (table-length n f)) (λ i l. at i (omega (arith, l, long)) ∙ sym (table-at n f i (omega (arith, l, long))))
+
+-- all paths, from the words of each
+paths-by : (p : Plan) (n : ℕ) (v : PathWords) → n ≡ planFault p → Long v
+    → ((g : ℕ) → g < mostGates → (getD (v .bits) g 0 ≡ pathAnswer p g .bits) × (getD (v .lengths) g 0 ≡ pathAnswer p g .length))
+    → record { number = n; bits = v .bits; lengths = v .lengths } ≡ pathsAnswer p
+unfolding pathsAnswer
+paths-by p n v e long at =
+    rw (
+      e,
+      table-by (λ (g : ℕ). pathAnswer p g .bits) mostGates (v .bits) (long .bits) (λ g h. at g h .0),
+      table-by (λ (g : ℕ). pathAnswer p g .length) mostGates (v .lengths) (long .lengths) (λ g h. at g h .1),
+    )
+
+zeros-long : Long zeroWords
+zeros-long = let e = length-replicate {A = ℕ} mostGates 0 in record { bits = e; lengths = e }
+
+pub paths-made-up : (p : Plan) (n : ℕ) → n ≡ planFault p → n ≢ 0 → record { number = n; bits = zeroWords .bits; lengths = zeroWords .lengths } ≡ pathsAnswer p
+paths-made-up p n e z = paths-by p n zeroWords e zeros-long (λ g h. rw (path-made-up p g (λ y. z (e ∙ y))) (getD-replicate mostGates g 0 0 h, getD-replicate mostGates g 0 0 h))
+
+-- the words of a gate after a walk over zeros: those of its path, none being empty
+read-zeros : (g : ℕ) (q : Option (List ℕ)) (v : PathWords) → g < mostGates → Read g q 0 1 0 zeroWords v
+    → (getD (v .bits) g 0 ≡ bitsOf (orEmpty q)) × (getD (v .lengths) g 0 ≡ length (orEmpty q))
+unfolding bitsOf
+read-zeros g (some p) v h r = (r .0 ∙ omega arith, r .1 ∙ omega arith)
+read-zeros g none v h r = (r .0 ∙ getD-replicate mostGates g 0 0 h, r .1 ∙ getD-replicate mostGates g 0 0 h)
+
+-- all paths, where the walk from the root wrote them over zeros
+pub paths-placed : (p : Plan) (v : PathWords) → planFault p ≡ 0 → ((t : Tree) → treeAt mostLevels (p .nodes) 0 ≡ some t → v ≡ placed t 0 1 0 zeroWords)
+    → record { number = 0; bits = v .bits; lengths = v .lengths } ≡ pathsAnswer p
+unfolding pathAnswer bitsOf
+paths-placed p v f walked =
+    paths-by p 0 v (sym f) (rw is (placed-long t 0 1 0 zeroWords zeros-long)) (λ g h. at g (decLt g (p .«gate_count»)) (words g h))
+  where
+    w : Faultless p
+    w = fault-none p f
+
+    t : Tree
+    t = w .nodes .tree
+
+    is : v ≡ placed t 0 1 0 zeroWords
+    is = walked t (w .nodes .is)
+
+    words : (g : ℕ) → g < mostGates → (getD (v .bits) g 0 ≡ bitsOf (pathOf g t)) × (getD (v .lengths) g 0 ≡ length (pathOf g t))
+    words g h = read-zeros g (pathTo g t) v h (rw is (placed-read t 0 1 0 zeroWords g h zeros-long))
+
+    at : (g : ℕ) → Dec (g < p .«gate_count») → (getD (v .bits) g 0 ≡ bitsOf (pathOf g t)) × (getD (v .lengths) g 0 ≡ length (pathOf g t))
+        → (getD (v .bits) g 0 ≡ pathAnswer p g .bits) × (getD (v .lengths) g 0 ≡ pathAnswer p g .length)
+    at g (yes d) r = rw (eq-eqb (planFault p) 0 f, lt-ltb g (p .«gate_count») d, w .nodes .is) r
+    at g (no d) r =
+        rw (eq-eqb (planFault p) 0 f, le-ltb g (p .«gate_count») (omega arith)) (rw (unlisted-path (p .«gate_count») t g (w .nodes .listed) (omega arith)) at r)
 
 -- gate 0's path in a plan without a fault
 pub record Fine0 (p : Plan) (r : Path) : Type 0 where

@@ -1,4 +1,4 @@
-// The path of a gate in a plan's nodes.
+// The path of a gate in a plan's nodes, and those of all gates.
 ghost use mathlib.Core.Path.{_≡_};
 ghost use mathlib.Core.Option.{some};
 ghost use Prim.Native.Nat.{ℕ, _+_, _^_, _≤_, _<_};
@@ -6,7 +6,7 @@ ghost use Rattle.selector.specs.Tree.{Tree};
 ghost use Rattle.selector.specs.Paths.{pathTo};
 ghost use Rattle.selector.specs.Nodes.{treeAt};
 ghost use Rattle.selector.specs.Walk.{Links};
-ghost use Rattle.tree.specs.Placements.{spelled};
+ghost use Rattle.tree.specs.Placements.{spelled, pathWords, placed};
 
 // A path's bits, the step from the root least, and its length; zeros where the gate was not found.
 pub struct Placement {
@@ -61,4 +61,59 @@ pub(crate) fn output_placement(
         };
     }
     two
+}
+
+// The path of each gate at a leaf below a node, at most `levels` deep, is written. `path` and `depth` are the bits and the length of the node's own path, and
+// `weight`, 2 to the depth, is what a step to the left adds. The right side comes first, so that of two leaves of one gate the left one's path stays, as `output_placement` finds it.
+pub(crate) fn all_placements(
+    nodes: &[u64; 765],
+    count: usize,
+    at: usize,
+    path: u64,
+    weight: u64,
+    depth: u64,
+    levels: u64,
+    bits: &mut [u64; 128],
+    lengths: &mut [u64; 128],
+)
+    requires { ⌜ Links (now nodes) count ⌝ }
+    requires { ⌜ (at < count) × (count ≤ 255) × (path < weight) × (weight ≡ 2 ^ depth) × (depth + levels ≤ 32) ⌝ }
+    ensures { λ _. ⌜ ((t : Tree) → treeAt levels (now (nodes .entry)) at ≡ some t → pathWords (now (bits .exit)) (now (lengths .exit)) ≡ placed t path weight depth (pathWords (now (bits .entry)) (now (lengths .entry)))) ⌝ }
+{
+    if levels == 0 {
+        return;
+    }
+    let left = nodes[at * 3] as usize;
+    if left == 0 {
+        let gate = nodes[at * 3 + 2] as usize;
+        // a tree that passed the test for a made-up plan has no other gate
+        if gate < 128 {
+            bits[gate] = path;
+            lengths[gate] = depth;
+        }
+        return;
+    }
+    let right = nodes[at * 3 + 1] as usize;
+    all_placements(
+        nodes,
+        count,
+        right,
+        path,
+        weight * 2,
+        depth + 1,
+        levels - 1,
+        bits,
+        lengths,
+    );
+    all_placements(
+        nodes,
+        count,
+        left,
+        path + weight,
+        weight * 2,
+        depth + 1,
+        levels - 1,
+        bits,
+        lengths,
+    );
 }

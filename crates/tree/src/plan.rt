@@ -4,6 +4,7 @@ ghost use Rattle.parameters.specs.Lookup.{flagOf};
 ghost use Rattle.tree.specs.Plan.{zeroPlan, parametersOf, planFault, pathAnswer, pathsAnswer, tableIdAnswer};
 use crate::gates::GATE_WORDS;
 use crate::made_up::nodes_fit;
+use crate::paths::all_placements;
 use crate::paths::output_placement;
 use crate::refusals::extra_of;
 use crate::refusals::gates_number;
@@ -165,7 +166,7 @@ impl Plan {
         }
     }
 
-    // The paths of all gates, as `path` gives each, after one test of the plan.
+    // The paths of all gates, as `path` gives each: one test of the plan, and one walk of its tree.
     pub fn paths(self) -> Paths
         ensures { λ r. ⌜ r ≡ pathsAnswer self ⌝ }
     {
@@ -180,15 +181,17 @@ impl Plan {
             };
         }
         let nodes = self.nodes;
-        let count = self.node_count as usize;
-        let mut gate: u64 = 0;
-        while gate < self.gate_count {
-            let found = output_placement(&nodes, count, 0, gate, 32);
-            let at = gate as usize;
-            bits[at] = found.bits;
-            lengths[at] = found.length;
-            gate = gate + 1;
-        }
+        all_placements(
+            &nodes,
+            self.node_count as usize,
+            0,
+            0,
+            1,
+            0,
+            32,
+            &mut bits,
+            &mut lengths,
+        );
         Paths {
             number: 0,
             bits: bits,

@@ -41,7 +41,7 @@ output-placement-returns t c =
     let p = s .pre .1 in
     let h = pow-room (a .levels) (p .1 .2) in
     let z = pow-some (a .levels) in
-    ((λ u q. absurd (seek-none (a .nodes .now) (a .at) (a .gate) (a .levels) u (c .if1 .taken) q)), (omega arith, omega arith))
+    ((λ u q. absurd (seek-none (a .nodes .now) (a .at) (a .levels) u (c .if1 .taken) q)), (omega arith, omega arith))
 
 output-placement-mul-left : (t : ℕ) → output-placement-lts.Need-mul-left (
   output-placement-below t,
@@ -215,7 +215,7 @@ output-placement-returns-3 t c =
     let z = pow-some (a .levels) in
     let y = pow-step (a .levels) (omega (arith, c .before .before .before .before .before .before .if1 .left)) in
     let e = c .before .before .before .output-placement .ensures in (
-      (λ u q. let w = halves (a .nodes .now) (a .at) (a .gate) (a .levels) u (omega (arith, c .before .before .before .before .before .before .if1 .left)) (c .before .before .before .before .if2 .left) q in seek-left (a .gate) (w .l) (w .r) u (w .is) (c .before .before .before .output-placement .result) (e .0 (w .l) (w .left)) (c .before .before .if3 .taken)),
+      (λ u q. let w = halves (a .nodes .now) (a .at) (a .levels) u (omega (arith, c .before .before .before .before .before .before .if1 .left)) (c .before .before .before .before .if2 .left) q in seek-left (a .gate) (w .l) (w .r) u (w .is) (c .before .before .before .output-placement .result) (e .0 (w .l) (w .left)) (c .before .before .if3 .taken)),
       (omega (arith, e .1), omega (arith, e .1, c .before .before .before .before .before .before .if1 .left)),
     )
 
@@ -333,7 +333,7 @@ output-placement-returns-4 t c =
     let y = pow-step (a .levels) (omega (arith, c .before .before .before .before .before .before .before .before .before .if1 .left)) in
     let d = c .before .before .before .before .before .before .output-placement .ensures in
     let e = c .before .before .before .output-placement2 .ensures in (
-      (λ u q. let w = halves (a .nodes .now) (a .at) (a .gate) (a .levels) u (omega (arith, c .before .before .before .before .before .before .before .before .before .if1 .left)) (c .before .before .before .before .before .before .before .if2 .left) q in seek-right (a .gate) (w .l) (w .r) u (w .is) (c .before .before .before .before .before .before .output-placement .result) (c .before .before .before .output-placement2 .result) (d .0 (w .l) (w .left)) (c .before .before .before .before .before .if3 .left) (e .0 (w .r) (w .right)) (c .before .before .if4 .taken)),
+      (λ u q. let w = halves (a .nodes .now) (a .at) (a .levels) u (omega (arith, c .before .before .before .before .before .before .before .before .before .if1 .left)) (c .before .before .before .before .before .before .before .if2 .left) q in seek-right (a .gate) (w .l) (w .r) u (w .is) (c .before .before .before .before .before .before .output-placement .result) (c .before .before .before .output-placement2 .result) (d .0 (w .l) (w .left)) (c .before .before .before .before .before .if3 .left) (e .0 (w .r) (w .right)) (c .before .before .if4 .taken)),
       (omega (arith, e .1), omega (arith, e .1, c .before .before .before .before .before .before .before .before .before .if1 .left)),
     )
 
@@ -350,7 +350,7 @@ output-placement-returns-5 t c =
     let y = pow-step (a .levels) (omega (arith, c .before .before .before .before .before .before .before .if1 .left)) in
     let d = c .before .before .before .before .output-placement .ensures in
     let e = c .before .output-placement2 .ensures in (
-      (λ u q. let w = halves (a .nodes .now) (a .at) (a .gate) (a .levels) u (omega (arith, c .before .before .before .before .before .before .before .if1 .left)) (c .before .before .before .before .before .if2 .left) q in seek-neither (a .gate) (w .l) (w .r) u (w .is) (c .before .before .before .before .output-placement .result) (c .before .output-placement2 .result) (d .0 (w .l) (w .left)) (c .before .before .before .if3 .left) (e .0 (w .r) (w .right)) (c .if4 .left)),
+      (λ u q. let w = halves (a .nodes .now) (a .at) (a .levels) u (omega (arith, c .before .before .before .before .before .before .before .if1 .left)) (c .before .before .before .before .before .if2 .left) q in seek-neither (a .gate) (w .l) (w .r) u (w .is) (c .before .before .before .before .output-placement .result) (c .before .output-placement2 .result) (d .0 (w .l) (w .left)) (c .before .before .before .if3 .left) (e .0 (w .r) (w .right)) (c .if4 .left)),
       (omega (arith, e .1), omega (arith, e .1)),
     )
 
