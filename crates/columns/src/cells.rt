@@ -5,6 +5,8 @@ ghost use Prim.Native.Nat.{ℕ, _+_, _*_, _<_, _≤_};
 ghost use lib.ListN.{length, getD};
 ghost use Rattle.pieces.specs.Setting.{cols};
 ghost use Rattle.pieces.specs.Cells.{placeholder, indexOf, cellFault, cellsFault, placeCell, cellsRun};
+ghost use lib.Dec.{eqb};
+ghost use Rattle.base.specs.Pick.{pick};
 ghost use Rattle.base.specs.Quarters.{Fourfold};
 ghost use Rattle.columns.specs.Quick.{Named};
 use cs::Variable;
@@ -96,7 +98,7 @@ pub(crate) fn cells_fault(total: u64, vars: u64, count: u64, piece: &[u64]) -> u
 
 // One cell word: a placeholder changes nothing, an unseen variable stores the cell's word and
 // number, and a seen one exchanges its value with the cell's word.
-fn place_cell(cell: u64, variable: Variable, copies: &mut [u64], scratch: &mut [u64])
+fn branch_cell(cell: u64, variable: Variable, copies: &mut [u64], scratch: &mut [u64])
     requires { ⌜ cell < length (now copies) ⌝ }
     requires { ⌜ (variable .0 < placeholder → 2 * indexOf (variable .0) + 1 < length (now scratch)) ⌝ }
     ensures { λ _. ⌜ cols (now (copies .exit)) (now (scratch .exit)) ≡ placeCell cell (variable .0) (cols (now (copies .entry)) (now (scratch .entry))) ⌝ }
@@ -117,15 +119,100 @@ fn place_cell(cell: u64, variable: Variable, copies: &mut [u64], scratch: &mut [
     }
 }
 
-// The words of a piece without a fault, in the cells from number `count` on.
+// `unseen` for a variable without a value, else `seen`: the compiler makes the choice without a branch.
+fn by_value(value: u64, unseen: u64, seen: u64) -> u64
+    ensures { λ r. ⌜ r ≡ pick (eqb value 0) unseen seen ⌝ }
+{
+    if value == 0 {
+        return unseen;
+    }
+    seen
+}
+
+// The same without a branch on whether the variable is seen: its two words and the cell's are all
+// written, those too that stay as they are.
+fn choose_cell(cell: u64, variable: Variable, copies: &mut [u64], scratch: &mut [u64])
+    requires { ⌜ cell < length (now copies) ⌝ }
+    requires { ⌜ (variable .0 < placeholder → 2 * indexOf (variable .0) + 1 < length (now scratch)) ⌝ }
+    ensures { λ _. ⌜ cols (now (copies .exit)) (now (scratch .exit)) ≡ placeCell cell (variable .0) (cols (now (copies .entry)) (now (scratch .entry))) ⌝ }
+{
+    if variable.is_placeholder() {
+        return;
+    }
+    let at = (2 * variable.as_variable_index()) as usize;
+    let place = cell as usize;
+    let word = copies[place];
+    let value = scratch[at];
+    let first = scratch[at + 1];
+    scratch[at] = word;
+    scratch[at + 1] = by_value(value, cell, first);
+    copies[place] = by_value(value, word, value);
+}
+
+// The same in either way.
+fn place_cell(
+    scattered: bool,
+    cell: u64,
+    variable: Variable,
+    copies: &mut [u64],
+    scratch: &mut [u64],
+)
+    requires { ⌜ cell < length (now copies) ⌝ }
+    requires { ⌜ (variable .0 < placeholder → 2 * indexOf (variable .0) + 1 < length (now scratch)) ⌝ }
+    ensures { λ _. ⌜ cols (now (copies .exit)) (now (scratch .exit)) ≡ placeCell cell (variable .0) (cols (now (copies .entry)) (now (scratch .entry))) ⌝ }
+{
+    if scattered {
+        choose_cell(cell, variable, copies, scratch);
+        return;
+    }
+    branch_cell(cell, variable, copies, scratch);
+}
+
+// 1 for two neighbouring words that are more than 64 apart, else 0.
+fn is_far(piece: &[u64], at: usize) -> u64
+    requires { ⌜ at ≤ length (now piece) ⌝ }
+    ensures { λ r. ⌜ r ≤ 1 ⌝ }
+{
+    if piece.len() <= at + 1 {
+        return 0;
+    }
+    let apart = std::num::wrapping_sub_u64(piece[at], piece[at + 1]);
+    if std::num::wrapping_add_u64(apart, 64) <= 128 {
+        return 0;
+    }
+    1
+}
+
+// Whether neighbouring words are mostly far apart, by 64 pairs that are spread over the piece. Only
+// the speed depends on the answer.
+fn is_scattered(piece: &[u64]) -> bool {
+    let step = piece.len() / 64;
+    let mut far: u64 = 0;
+    let mut i: usize = 0;
+    while i < 64 {
+        far = far + is_far(piece, i * step);
+        i = i + 1;
+    }
+    32 < far
+}
+
+// The words of a piece without a fault, in the cells from number `count` on. Where neighbours name
+// neighbouring variables the processor foretells which are seen; where they do not, no branch asks.
 pub(crate) fn place_cells(count: u64, piece: &[u64], copies: &mut [u64], scratch: &mut [u64])
     requires { ⌜ count + length (now piece) ≤ length (now copies) ⌝ }
     requires { ⌜ ((j : ℕ) → j < length (now piece) → getD (now piece) j 0 < placeholder → 2 * indexOf (getD (now piece) j 0) + 1 < length (now scratch)) ⌝ }
     ensures { λ _. ⌜ cols (now (copies .exit)) (now (scratch .exit)) ≡ cellsRun count (now (piece .entry)) (cols (now (copies .entry)) (now (scratch .entry))) ⌝ }
 {
+    let scattered = is_scattered(piece);
     let mut i = 0;
     while i < piece.len() {
-        place_cell(count + i as u64, Variable(piece[i]), copies, scratch);
+        place_cell(
+            scattered,
+            count + i as u64,
+            Variable(piece[i]),
+            copies,
+            scratch,
+        );
         i = i + 1;
     }
 }

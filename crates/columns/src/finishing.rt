@@ -62,10 +62,10 @@ fn is_within(cells: u64, v: usize, scratch: &[u64]) -> bool
     ensures { λ r. ⌜ (r ≡ true → Within cells (now (scratch .entry)) v) ⌝ }
 {
     let at = 2 * v;
-    if field::P <= scratch[at] {
+    if cells <= scratch[at + 1] {
         return false;
     }
-    scratch[at + 1] < cells
+    scratch[at] < field::P
 }
 
 // The same for four variables, each `step` behind the one before.

@@ -13,12 +13,15 @@ use Rattle.columns.proofs.cells.place_cells.Statement.{statement}
 use Rattle.columns.proofs.cells.place_cells.Tie as tie
 
 abbrev Inv-loop : tie.InvT-loop
-Inv-loop count piece copies₀ scratch₀ i₀ copies scratch i =
+Inv-loop count piece copies₀ scratch₀ scattered i₀ copies scratch i =
     (i ≤ length piece) × (length copies ≡ length copies₀) × (length scratch ≡ length scratch₀)
     × (cellsRun count piece (cols copies₀ scratch₀) ≡ cellsRun (count + i) (drop i piece) (cols copies scratch))
 
 abbrev μ-loop : tie.MeasureT-loop
-μ-loop count piece copies₀ scratch₀ i₀ copies scratch i = length piece - i
+μ-loop count piece copies₀ scratch₀ scattered i₀ copies scratch i = length piece - i
+
+is-scattered-requires : tie.Need-is-scattered-requires Inv-loop μ-loop
+is-scattered-requires c κs = search needs
 
 loop-holds : tie.Need-loop-holds Inv-loop μ-loop
 loop-holds c = (omega arith, refl, refl, rw add-zero)
@@ -26,16 +29,16 @@ loop-holds c = (omega arith, refl, refl, rw add-zero)
 add-place-cell : tie.Need-add-place-cell Inv-loop μ-loop
 add-place-cell c = search needs
 
-mul-t6 : tie.Need-mul-t6 Inv-loop μ-loop
-mul-t6 c = search needs
+mul-t7 : tie.Need-mul-t7 Inv-loop μ-loop
+mul-t7 c = search needs
 
-shared-slice-read-t12 : tie.Need-shared-slice-read-t12 Inv-loop μ-loop
-shared-slice-read-t12 c = search needs
+shared-slice-read-t13 : tie.Need-shared-slice-read-t13 Inv-loop μ-loop
+shared-slice-read-t13 c = search needs
 
 place-cell-requires : tie.Need-place-cell-requires Inv-loop μ-loop
 place-cell-requires c κs =
     let l = c .before .before .before .before in
-    (omega (arith, l .loop .inv), λ q. omega (arith, l .loop .inv, l .before .before .before .before .pre .1 (l .loop .i) (c .before .before .before .loop-test .taken) q))
+    (omega (arith, l .loop .inv), λ q. omega (arith, l .loop .inv, l .before .before .before .before .before .pre .1 (l .loop .i) (c .before .before .before .loop-test .taken) q))
 
 add-i : tie.Need-add-i Inv-loop μ-loop
 add-i c = search needs
@@ -47,10 +50,10 @@ loop-again : tie.Need-loop-again Inv-loop μ-loop
 loop-again c =
     let w = c .before .before .before .before in
     let l = w .before .before .before .before .before in
-    let a = l .before .before .before .before .args in (
+    let a = l .before .before .before .before .before .args in (
       omega arith,
-      w .place-cell .kept .1 .1 .0 ∙ l .loop .inv .1,
-      w .place-cell .kept .1 .1 .1 .0 ∙ l .loop .inv .2,
+      w .place-cell .kept .1 .1 .1 .0 ∙ l .loop .inv .1,
+      w .place-cell .kept .1 .1 .1 .1 .0 ∙ l .loop .inv .2,
       l .loop .inv .3 ∙ run-turn (a .count) (l .loop .i) (a .piece .now) (cols (l .loop .copies) (l .loop .scratch)) _ (omega arith) (w .place-cell .ensures),
     )
 
@@ -63,7 +66,7 @@ same-length-2 c = c .before .loop .inv .2
 returns : tie.Need-returns Inv-loop μ-loop
 returns c =
     let l = c .before .loop in
-    let a = c .before .before .before .before .before .args in
+    let a = c .before .before .before .before .before .before .args in
     sym (l .inv .3 ∙ run-done (a .count + l .i) (l .i) (a .piece .now) (cols (l .copies) (l .scratch)) (omega arith))
 
 pub place-cells-spec : {M : Type 1} → statement M
@@ -72,10 +75,11 @@ place-cells-spec =
     (tie.spec
     Inv-loop
     μ-loop
+    is-scattered-requires
     loop-holds
     add-place-cell
-    mul-t6
-    shared-slice-read-t12
+    mul-t7
+    shared-slice-read-t13
     place-cell-requires
     add-i
     loop-less

@@ -12,6 +12,9 @@ use Rattle.columns.proofs.finishing.is_within.Lts as lts
 mul-at : tie.Need-mul-at
 mul-at c = search needs
 
+add-if1 : tie.Need-add-if1
+add-if1 c = search needs
+
 mul-if1 : tie.Need-mul-if1
 mul-if1 c = search needs
 
@@ -21,9 +24,6 @@ shared-slice-read-if1 c = search needs
 returns : tie.Need-returns
 returns c = λ e. true-not-false (sym e)
 
-add-result : tie.Need-add-result
-add-result c = search needs
-
 mul-result : tie.Need-mul-result
 mul-result c = search needs
 
@@ -31,17 +31,17 @@ shared-slice-read-result : tie.Need-shared-slice-read-result
 shared-slice-read-result c = search needs
 
 returns-2 : tie.Need-returns-2
-returns-2 c = λ e. (c .before .if1 .left, ltb-true _ _ e)
+returns-2 c = λ e. (ltb-true _ _ e, c .before .if1 .left)
 
 pub is-within-spec : {M : Type 1} → statement M
 is-within-spec =
     tie.close
     (tie.spec
     mul-at
+    add-if1
     mul-if1
     shared-slice-read-if1
     returns
-    add-result
     mul-result
     shared-slice-read-result
     returns-2)

@@ -1,17 +1,21 @@
--- `columns::cells::place_cell` meets its contract: its three ways are the three equations of a cell word.
+-- `columns::cells::choose_cell` meets its contract: the two ways of a variable as one equation.
 -- Assumes nothing.
-use borrow.Author.Needs.{needs}
-use mathlib.Core.Path.{_≡_, refl, sym, ap, _∙_}
+use mathlib.Core.Path.{_≡_, sym, _∙_}
 use native.Mathlib.Omega.{arith}
 use borrow.Author.Tests.{leb-true, leb-false}
 use Prim.Native.Nat.{ℕ, _+_, _*_, _<_}
-use lib.ListN.{length, getD, length-set}
-use lib.Seq.{set-comm}
+use lib.ListN.{length, length-set}
 use Rattle.pieces.specs.Setting.{cols}
-use Rattle.pieces.specs.Cells.{placeholder, indexOf, firstSeen, seenAgain}
-use Rattle.pieces.specs.CellLaws.{place-skip, place-first, place-again}
-use Rattle.columns.proofs.cells.place_cell.Statement.{statement}
-use Rattle.columns.proofs.cells.place_cell.Tie as tie
+use Rattle.pieces.specs.Cells.{placeholder, indexOf}
+use Rattle.pieces.specs.CellLaws.{place-skip, place-chosen}
+use borrow.Author.Needs.{needs}
+use Rattle.columns.proofs.cells.choose_cell.Statement.{statement}
+use Rattle.columns.proofs.cells.choose_cell.Tie as tie
+use Rattle.columns.proofs.cells.choose_cell.Reads as reads
+use Rattle.columns.proofs.cells.choose_cell.Lts as lts
+use Rattle.columns.proofs.cells.by_value.Reads as by-value-reads
+use Rattle.cs.proofs.Variable.as_variable_index.Reads as as-variable-index-reads
+use Rattle.cs.proofs.Variable.is_placeholder.Reads as is-placeholder-reads
 
 is-placeholder-requires : tie.Need-is-placeholder-requires
 is-placeholder-requires c κs = search needs
@@ -48,8 +52,14 @@ mul-value c = search needs
 slice-read-value : tie.Need-slice-read-value
 slice-read-value c = omega (arith, room (c .before .before .before), c .before .before .as-variable-index .ensures)
 
-add-scratch : tie.Need-add-scratch
-add-scratch c = search needs
+add-first : tie.Need-add-first
+add-first c = search needs
+
+mul-first : tie.Need-mul-first
+mul-first c = search needs
+
+slice-read-first : tie.Need-slice-read-first
+slice-read-first c = omega (arith, room (c .before .before .before .before), c .before .before .before .as-variable-index .ensures)
 
 mul-scratch : tie.Need-mul-scratch
 mul-scratch c = search needs
@@ -57,11 +67,20 @@ mul-scratch c = search needs
 slice-write-scratch : tie.Need-slice-write-scratch
 slice-write-scratch c = omega (arith, room (c .before .before .before .before), c .before .before .before .as-variable-index .ensures)
 
+by-value-requires : tie.Need-by-value-requires
+by-value-requires c κs = search needs
+
+add-scratch : tie.Need-add-scratch
+add-scratch c = search needs
+
 mul-scratch-2 : tie.Need-mul-scratch-2
 mul-scratch-2 c = search needs
 
 slice-write-scratch-2 : tie.Need-slice-write-scratch-2
-slice-write-scratch-2 c = simp length-set (omega (arith, room (c .before .before .before .before), c .before .before .before .as-variable-index .ensures))
+slice-write-scratch-2 c = simp length-set (omega (arith, room (c .before .before .before .before .before), c .before .before .before .before .as-variable-index .ensures))
+
+by-value-requires-2 : tie.Need-by-value-requires-2
+by-value-requires-2 c κs = search needs
 
 mul-copies : tie.Need-mul-copies
 mul-copies c = search needs
@@ -69,40 +88,21 @@ mul-copies c = search needs
 slice-write-copies : tie.Need-slice-write-copies
 slice-write-copies c = search needs
 
-mul-scratch-3 : tie.Need-mul-scratch-3
-mul-scratch-3 c = search needs
-
-slice-write-scratch-3 : tie.Need-slice-write-scratch-3
-slice-write-scratch-3 c = omega (arith, room (c .before .before .before .before), c .before .before .before .as-variable-index .ensures)
-
 same-length : tie.Need-same-length
 same-length c = search needs
-
--- the two scratch words may be written in either order
-returns-2 : tie.Need-returns-2
-unfolding firstSeen
-returns-2 c =
-    let a = c .before .before .before .before .before .before .before .before .args in
-    let e = c .before .before .before .as-variable-index .ensures in
-    let v = indexOf (a .variable .0) in
-    rw e (ap (cols (a .copies .now)) (sym (set-comm (a .scratch .now) (2 * v) (2 * v + 1) (getD (a .copies .now) (a .cell) 0) (a .cell) (λ z. omega (arith, z))))
-    ∙ sym (place-first (a .cell) (a .variable .0) (cols (a .copies .now) (a .scratch .now)) (plain (c .before .before .before .before)) (rw e at (c .if2 .taken))))
 
 same-length-2 : tie.Need-same-length-2
 same-length-2 c = search needs
 
-same-length-3 : tie.Need-same-length-3
-same-length-3 c = search needs
+returns-2 : tie.Need-returns-2
+returns-2 c =
+    let a = c .before .before .before .before .before .before .before .before .before .before .args in
+    let e = c .before .before .before .before .before .as-variable-index .ensures in
+    rw (c .before .by-value .ensures, c .by-value2 .ensures, e)
+    (sym (place-chosen (a .cell) (a .variable .0) (cols (a .copies .now) (a .scratch .now)) (plain (c .before .before .before .before .before .before))))
 
-returns-3 : tie.Need-returns-3
-unfolding seenAgain
-returns-3 c =
-    let a = c .before .before .before .before .before .before .before .before .args in
-    let e = c .before .before .before .as-variable-index .ensures in
-    rw e (sym (place-again (a .cell) (a .variable .0) (cols (a .copies .now) (a .scratch .now)) (plain (c .before .before .before .before)) (rw e at (c .if2 .left))))
-
-pub place-cell-spec : {M : Type 1} → statement M
-place-cell-spec =
+pub choose-cell-spec : {M : Type 1} → statement M
+choose-cell-spec =
     tie.close
     (tie.spec
     is-placeholder-requires
@@ -113,17 +113,18 @@ place-cell-spec =
     slice-read-word
     mul-value
     slice-read-value
-    add-scratch
+    add-first
+    mul-first
+    slice-read-first
     mul-scratch
     slice-write-scratch
+    by-value-requires
+    add-scratch
     mul-scratch-2
     slice-write-scratch-2
+    by-value-requires-2
     mul-copies
     slice-write-copies
-    mul-scratch-3
-    slice-write-scratch-3
     same-length
-    returns-2
     same-length-2
-    same-length-3
-    returns-3)
+    returns-2)
