@@ -1,6 +1,7 @@
 -- Opening and the calls after it, case by case.
 --
--- Main statements: `state-given`, `state-kept`; `open-short`, `open-made-up`, `open-long`.
+-- Main statements: `state-given`, `progress-given`, `state-kept`; `rows-there`, `words-there`, `cells-there`, `tables-there`, `finish-there`; `open-short`,
+-- `open-made-up`, `open-given`.
 use Prim.Native.Nat.{_<_, _≤_, ℕ}
 use borrow.Author.Tests.{eq-eqb, le-leb, lt-leb, ne-eqb}
 use lib.Dec.{eqb, leb}
@@ -12,22 +13,32 @@ use mathlib.Core.Path.{_∙_, _≡_, ap, refl, sym}
 use native.Mathlib.Decide.{ℕ-discrete}
 use native.Mathlib.Omega.{arith}
 use Rattle.base.specs.Pick.{pick, pick-no, pick-yes}
-use Rattle.columns.specs.Intake.{openAnswer, openLeft, refusedWith, settingOf, withState}
-use Rattle.columns.specs.IntakeLaws.{open-19, open-refused}
+use Rattle.columns.specs.Intake.{answered, cellsAnswer, finishAnswer, openAnswer, openLeft, refusedWith, rowsAnswer, sWordsAnswer, settingOf, stateOf, tablesAnswer, withState}
+use Rattle.columns.specs.IntakeLaws.{cells-19, finish-19, open-19, open-refused, plan-fine, rows-19, tables-19, words-19}
 use Rattle.columns.specs.declared.intake.Intake.{Intake}
 use Rattle.columns.specs.declared.intake.Taken.{Taken}
+use Rattle.pieces.specs.Cells.{cellsNumber, cellsState}
+use Rattle.pieces.specs.Finishing.{finishNumber, finishedState}
 use Rattle.pieces.specs.Opening.{openNumber, openState, zeroState}
-use Rattle.pieces.specs.Setting.{Store}
+use Rattle.pieces.specs.Rows.{rowsNumber, rowsState}
+use Rattle.pieces.specs.SWords.{sWordsNumber, sWordsState}
+use Rattle.pieces.specs.Setting.{Cols, State, Store, stands}
+use Rattle.pieces.specs.Tables.{tablesNumber, tablesState}
 use Rattle.tree.specs.Plan.{planFault, zeroPlan}
 use Rattle.tree.specs.declared.plan.Plan.{Plan}
-use Rattle.encoding.specs.Encoding.{handed, intakeOf, intakeWords, planOf, stateLength}
-use Rattle.encoding.specs.EncodingLaws.{handed-short, state-length}
-use Rattle.capi.specs.Intake.{openCall, openedState, openedStore, stateAfter}
+use Rattle.encoding.specs.Encoding.{handed, intakeOf, intakeWords, planOf, planWords, progressOf, progressed, stateLength}
+use Rattle.encoding.specs.EncodingLaws.{handed-short, plan-there, state-length, state-progressed}
+use Rattle.capi.specs.Intake.{PlanThere, openCall, openedState, openedStore, stateAfter}
 
 -- ---- the state's words after a call
 pub state-given : (t : Taken) (old : List ℕ) → t .number ≡ 0 → handed (intakeWords (t .state)) old ≡ stateAfter t old
 unfolding stateAfter
 state-given t old e = sym (pick-yes (eqb (t .number) 0) (handed (intakeWords (t .state)) old) old (eq-eqb (t .number) 0 e))
+
+-- where the plan's words are there already, all but them
+pub progress-given : (t : Taken) (old : List ℕ) → length (t .state .plan .gates) ≡ 384 → length (t .state .plan .nodes) ≡ 765 → length (t .state .used) ≡ 128
+    → PlanThere t old → t .number ≡ 0 → progressed (progressOf (t .state)) old ≡ stateAfter t old
+progress-given t old g n u h e = state-progressed (t .state) old g n u (h e) ∙ state-given t old e
 
 pub state-kept : (t : Taken) (old : List ℕ) → t .number ≢ 0 → old ≡ stateAfter t old
 unfolding stateAfter
@@ -43,6 +54,53 @@ pub passed : (answer : Intake → Taken) (ws : List ℕ) (s : Intake) (t : Taken
 passed answer ws s t r w es et er ew =
     let e : t ≡ answer (intakeOf ws) = et ∙ ap answer es in
     (er ∙ ap (λ (x : Taken). x .number) e, ew ∙ ap (λ (x : Taken). stateAfter x ws) e)
+
+-- ---- an accepted call finds the words of its plan in the state's
+answered-number : (n : ℕ) (s : Intake) (x : State) → answered n s x .number ≡ n
+answered-number n s x = by (ℕ-discrete n 0)
+  where
+    by : Dec (n ≡ 0) → answered n s x .number ≡ n
+    by (yes e) = rw (eq-eqb n 0 e) (sym e)
+    by (no d) = rw (ne-eqb n 0 d)
+
+answered-plan : (n : ℕ) (s : Intake) (x : State) → answered n s x .state .plan ≡ s .plan
+answered-plan n s x = by (eqb n 0)
+  where
+    by : (t : Bool) → pick t (record { number = 0; state = withState (s .plan) x }) (refusedWith n s) .state .plan ≡ s .plan
+    by true = refl
+    by false = refl
+
+-- an accepted call was given a state that stands, and keeps its plan
+answered-there : (ws : List ℕ) (s : Intake) (n : ℕ) (x : State) (t : Taken) → s ≡ intakeOf ws → t ≡ answered n s x → (stands (settingOf (s .plan)) (stateOf s) ≡ false → n ≡ 19)
+    → PlanThere t ws
+answered-there ws s n x t es et f z = by (stands (settingOf (s .plan)) (stateOf s)) refl
+  where
+    by : (b : Bool) → stands (settingOf (s .plan)) (stateOf s) ≡ b → handed (planWords (t .state .plan)) ws ≡ ws
+    by false e = absurd (omega (arith, f e, answered-number n s x, ap (λ (y : Taken). y .number) et, z))
+    by true e =
+        ap (λ (q : Plan). handed (planWords q) ws) (ap (λ (y : Taken). y .state .plan) et ∙ answered-plan n s x ∙ ap (λ (y : Intake). y .plan) es)
+        ∙ plan-there ws (ap (λ (y : Intake). planFault (y .plan)) (sym es) ∙ plan-fine s e)
+
+module _ (ws : List ℕ) (s : Intake) (t : Taken) (e : s ≡ intakeOf ws) where
+  pub rows-there : (piece b : List ℕ) → t ≡ rowsAnswer s piece b → PlanThere t ws
+  unfolding rowsAnswer
+  rows-there piece b h = answered-there ws s (rowsNumber (settingOf (s .plan)) (stateOf s) piece b) (rowsState (stateOf s) piece) t e h (rows-19 s piece b)
+
+  pub words-there : (piece b : List ℕ) → t ≡ sWordsAnswer s piece b → PlanThere t ws
+  unfolding sWordsAnswer
+  words-there piece b h = answered-there ws s (sWordsNumber (settingOf (s .plan)) (stateOf s) piece b) (sWordsState (stateOf s) piece) t e h (words-19 s piece b)
+
+  pub cells-there : (piece : List ℕ) (b : Cols) → t ≡ cellsAnswer s piece b → PlanThere t ws
+  unfolding cellsAnswer
+  cells-there piece b h = answered-there ws s (cellsNumber (settingOf (s .plan)) (stateOf s) piece b) (cellsState (stateOf s) piece) t e h (cells-19 s piece b)
+
+  pub tables-there : (piece b : List ℕ) → t ≡ tablesAnswer s piece b → PlanThere t ws
+  unfolding tablesAnswer
+  tables-there piece b h = answered-there ws s (tablesNumber (settingOf (s .plan)) (stateOf s) piece b) (tablesState (stateOf s) piece) t e h (tables-19 s piece b)
+
+  pub finish-there : (b : Cols) → t ≡ finishAnswer s b → PlanThere t ws
+  unfolding finishAnswer
+  finish-there b h = answered-there ws s (finishNumber (settingOf (s .plan)) (stateOf s) b) (finishedState (stateOf s)) t e h (finish-19 s b)
 
 -- ---- opening
 -- the state that opening hands back has a state's words

@@ -4,22 +4,34 @@ ghost use mathlib.Core.Path.{_≡_};
 ghost use Rattle.pieces.specs.Setting.{cols};
 ghost use Rattle.columns.specs.Intake.{storeOf, rowsAnswer, rowsLeft, sWordsAnswer, sWordsLeft, cellsAnswer, cellsLeft, tablesAnswer, tablesLeft, finishAnswer, finishLeft};
 ghost use Rattle.encoding.specs.Encoding.{intakeOf};
-ghost use Rattle.capi.specs.Intake.{openCall, openedState, openedStore, stateAfter};
+ghost use Rattle.capi.specs.Intake.{PlanThere, openCall, openedState, openedStore, stateAfter};
 use columns::intake::Intake;
 use columns::intake::Taken;
 use encoding::encoding::STATE_WORDS;
 use encoding::encoding::decode_plan;
 use encoding::encoding::decode_state;
+use encoding::encoding::encode_progress;
 use encoding::encoding::encode_state;
 
-// The number of a call; the state's words are written where it is accepted.
+// The number of a call. Where it is accepted the state's words are written, all but those of the
+// plan: they are there, since no call after opening changes the plan.
 fn give_back(taken: Taken, state: &mut [u64]) -> u64
+    requires { ⌜ PlanThere taken (now state) ⌝ }
     ensures { λ r. ⌜ r ≡ taken .number ⌝ }
     ensures { λ _. ⌜ now (state .exit) ≡ stateAfter taken (now (state .entry)) ⌝ }
 {
     if taken.number == 0 {
-        let after = taken.state;
-        encode_state(after, state);
+        let used = taken.state.used;
+        encode_progress(
+            taken.state.rows,
+            taken.state.s_words,
+            taken.state.cells,
+            taken.state.tables,
+            taken.state.table_rows,
+            used,
+            taken.state.phase,
+            state,
+        );
     }
     taken.number
 }

@@ -20,7 +20,6 @@ use Rattle.columns.specs.Intake.{answered, cellsAnswer, finishAnswer, openAnswe
 use Rattle.columns.specs.IntakeLaws.{cells-19, cells-refused, finish-19, finish-refused, rows-19, rows-refused, tables-19, tables-refused, words-19, words-refused}
 use Rattle.columns.specs.declared.intake.Intake.{Intake}
 use Rattle.columns.specs.declared.intake.Taken.{Taken}
-use Rattle.parameters.specs.Parameters.{parametersNumber}
 use Rattle.parameters.specs.declared.parameters.Parameters.{Parameters}
 use Rattle.pieces.specs.Cells.{cellsNumber, cellsState}
 use Rattle.pieces.specs.Finishing.{finishNumber, finishedState}
@@ -33,25 +32,17 @@ use Rattle.pieces.specs.Tables.{tablesNumber, tablesState}
 use Rattle.selector.specs.NodeLaws.{laid-length}
 use Rattle.selector.specs.Refusals.{extraOf}
 use Rattle.selector.specs.Tree.{Tree}
-use Rattle.tree.specs.Plan.{parametersOf, planFault, planNumber, planWith, planned, treeFor, treeNumber, wordsNumber, zeroPlan}
+use Rattle.tree.specs.Plan.{planFault, planNumber, planWith, planned, treeFor, treeNumber, wordsNumber, zeroPlan}
 use Rattle.tree.specs.PlanLaws.{words-accepted}
 use Rattle.tree.specs.Shapes.{shapeOf}
 use Rattle.tree.specs.declared.plan.Plan.{Plan}
 use Rattle.encoding.specs.Encoding.{handed, intakeOf, intakeWords, lookupFits, parametersAt, planLength, planOf, planWords, stateLength}
-use Rattle.encoding.specs.EncodingLaws.{plan-back, plan-none, plan-other, plan-read, state-back, state-length, state-other, state-read}
+use Rattle.encoding.specs.EncodingLaws.{plan-back, plan-none, plan-other, plan-read, state-back, state-length, state-other, state-read, zero-fault}
 use Rattle.capi.specs.Intake.{openedState, stateAfter}
 use Rattle.capi.specs.IntakeLaws.{state-given, state-kept}
 use Rattle.capi.specs.Planning.{parameterCount, planLeft}
 
 -- ---- "words that encode none, or of the wrong length, are a made-up one: 19"
-zero-fault : planFault zeroPlan ≡ 19
-unfolding planFault
-zero-fault = by (eqb (parametersNumber (parametersOf zeroPlan)) 0)
-  where
-    by : (t : Bool) → _≡_ {A = ℕ} (pick t 19 19) 19
-    by true = refl
-    by false = refl
-
 pub other-plan : (ws : List ℕ) → length ws ≢ planLength → planFault (planOf ws) ≡ 19
 other-plan ws d = ap planFault (sym (plan-other ws d)) ∙ zero-fault
 

@@ -1,6 +1,6 @@
 -- Plans and states as words: "A plan or state is the struct's words in a fixed order; words that encode none, or of the wrong length, are a made-up one: 19."
 --
--- Main definitions: `planWords`, `planOf`, `intakeWords`, `intakeOf`; `handed`.
+-- Main definitions: `planWords`, `planOf`, `intakeWords`, `intakeOf`; `handed`, `progressed`.
 use Prim.Native.Nat.{ℕ}
 use lib.Dec.{eqb, leb}
 use lib.ListN.{drop, getD, length, take}
@@ -81,13 +81,20 @@ planAt ws =
 unfoldable pub planOf : List ℕ → Plan
 planOf ws = pick (eqb (length ws) planLength) (pick (lookupFits (getD ws 5 0) (getD ws 6 0) (getD ws 7 0)) (planAt ws) zeroPlan) zeroPlan
 
--- the counts of a state
-abbrev pub countWords : Intake → List ℕ
-countWords s = s .rows ∷ s .«s_words» ∷ s .cells ∷ s .tables ∷ s .«table_rows» ∷ []
+-- what a state has besides its plan, as words: the five counts, the marks, the phase
+abbrev pub progressWords : ℕ → ℕ → ℕ → ℕ → ℕ → List ℕ → ℕ → List ℕ
+progressWords rows words cells tables stacked used phase = (rows ∷ words ∷ cells ∷ tables ∷ stacked ∷ []) ++ (used ++ (phase ∷ []))
+
+abbrev pub progressOf : Intake → List ℕ
+progressOf s = progressWords (s .rows) (s .«s_words») (s .cells) (s .tables) (s .«table_rows») (s .used) (s .phase)
 
 -- a state as words, in the order of its fields
 abbrev pub intakeWords : Intake → List ℕ
-intakeWords s = planWords (s .plan) ++ (countWords s ++ (s .used ++ (s .phase ∷ [])))
+intakeWords s = planWords (s .plan) ++ progressOf s
+
+-- the words of a state with those behind its plan replaced; a slice that is too short keeps all its words
+abbrev pub progressed : List ℕ → List ℕ → List ℕ
+progressed new old = pick (leb stateLength (length old)) (take planLength old ++ (new ++ drop stateLength old)) old
 
 abbrev pub intakeAt : List ℕ → Intake
 intakeAt ws =

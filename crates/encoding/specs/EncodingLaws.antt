@@ -1,28 +1,30 @@
--- Decoding what was encoded gives the value back.
+-- Decoding what was encoded gives the value back, and encoding what was decoded the words, where the plan has no fault.
 --
--- Main statements: `plan-back`, `state-back`.
+-- Main statements: `plan-back`, `state-back`; `sound-again`, `plan-there`, `state-progressed`.
 use Prim.Native.Nat.{_+_, _<_, _≤_, suc, ℕ}
-use borrow.Author.Tests.{eq-eqb, le-leb, lt-leb, ne-eqb}
+use borrow.Author.Tests.{eq-eqb, eqb-true, le-leb, leb-true, lt-leb, ne-eqb}
 use lib.Dec.{eqb, leb}
-use lib.ListN.{drop, getD, length, length-append, length-drop, length-replicate, replicate, set, take}
+use lib.ListN.{drop, getD, length, length-append, length-drop, length-replicate, replicate, set, take, take-append-drop}
 use lib.Seq.{drop-append-add, drop-cons, drop-drop, drop-length, getD-append-add, getD-at, length-take-le, paste, set-at, take-at, take-length}
-use mathlib.Core.Bool.{false, true}
+use mathlib.Core.Bool.{Bool, false, true}
 use mathlib.Core.List.{List, [], _++_, _∷_, append-assoc, append-nil}
 use mathlib.Core.Logic.{_≢_}
 use mathlib.Core.Path.{_∙_, _≡_, ap, refl, sym}
+use native.Mathlib.Decide.{decLe, ℕ-discrete}
 use native.Mathlib.Nat.{zero-add}
 use native.Mathlib.Numerals.{add-one}
 use native.Mathlib.Omega.{arith}
-use Rattle.base.specs.Pick.{pick-no, pick-yes}
+use Rattle.base.specs.Pick.{both, both-true, pick, pick-no, pick-yes}
 use Rattle.columns.specs.declared.intake.Intake.{Intake}
 use Rattle.parameters.specs.Lookup.{flagOf, modeOf, shareOf, widthOf}
-use Rattle.parameters.specs.Parameters.{lookupOf}
+use Rattle.parameters.specs.Parameters.{lookupOf, parametersNumber}
+use Rattle.parameters.specs.ParametersLaws.{LookupWords}
 use Rattle.parameters.specs.declared.lookup.LookupParameters.the-variants.{NoLookup, TableIdAsConstant, TableIdAsVariable, UseSpecializedColumnsWithTableIdAsConstant, UseSpecializedColumnsWithTableIdAsVariable}
 use Rattle.parameters.specs.declared.lookup.LookupParameters.{LookupParameters}
 use Rattle.parameters.specs.declared.parameters.Parameters.{Parameters}
-use Rattle.tree.specs.Plan.{parametersOf, zeroPlan}
+use Rattle.tree.specs.Plan.{parametersOf, planFault, zeroPlan}
 use Rattle.tree.specs.declared.plan.Plan.{Plan}
-use Rattle.encoding.specs.Encoding.{countWords, handed, headWords, intakeAt, intakeOf, intakeWords, lookupFits, parametersAt, planAt, planLength, planOf, planWords, stateLength, tailWords, zeroIntake}
+use Rattle.encoding.specs.Encoding.{handed, headWords, intakeAt, intakeOf, intakeWords, lookupFits, parametersAt, planAt, planLength, planOf, planWords, progressOf, progressWords, progressed, stateLength, tailWords, zeroIntake}
 
 -- ---- the lookup mode
 pub fits-each : (l : LookupParameters) → lookupFits (modeOf l) (widthOf l) (flagOf (shareOf l)) ≡ true
@@ -112,29 +114,25 @@ module _ (q : Plan) (g : length (q .gates) ≡ 384) (n : length (q .nodes) ≡ 7
       ∙ fields-back
 
 module _ (s : Intake) (g : length (s .plan .gates) ≡ 384) (n : length (s .plan .nodes) ≡ 765) (u : length (s .used) ≡ 128) where
-  -- the words after the plan
-  abbrev counts : List ℕ
-  counts = countWords s ++ (s .used ++ (s .phase ∷ []))
-
   long : length (planWords (s .plan)) ≡ 1162
   long = plan-length (s .plan) g n
 
   pub state-length : length (intakeWords s) ≡ stateLength
   state-length =
-      let a = length-append (planWords (s .plan)) counts in
+      let a = length-append (planWords (s .plan)) (progressOf s) in
       let b = length-append (s .used) (s .phase ∷ []) in
       omega (arith, long, a, b)
 
   state-fields : intakeAt (intakeWords s) ≡ s
   state-fields = λ i. record {
-    plan = (ap planOf (take-at (planWords (s .plan)) counts 1162 long) ∙ plan-back (s .plan) g n) i;
-    rows = part-getD (planWords (s .plan)) counts 1162 0 long i;
-    «s_words» = part-getD (planWords (s .plan)) counts 1162 1 long i;
-    cells = part-getD (planWords (s .plan)) counts 1162 2 long i;
-    tables = part-getD (planWords (s .plan)) counts 1162 3 long i;
-    «table_rows» = part-getD (planWords (s .plan)) counts 1162 4 long i;
-    used = (ap (take 128) (part-drop (planWords (s .plan)) counts 1162 5 long) ∙ take-at (s .used) (s .phase ∷ []) 128 u) i;
-    phase = (part-getD (planWords (s .plan)) counts 1162 133 long ∙ getD-at (s .used) (s .phase) [] 0 128 u) i;
+    plan = (ap planOf (take-at (planWords (s .plan)) (progressOf s) 1162 long) ∙ plan-back (s .plan) g n) i;
+    rows = part-getD (planWords (s .plan)) (progressOf s) 1162 0 long i;
+    «s_words» = part-getD (planWords (s .plan)) (progressOf s) 1162 1 long i;
+    cells = part-getD (planWords (s .plan)) (progressOf s) 1162 2 long i;
+    tables = part-getD (planWords (s .plan)) (progressOf s) 1162 3 long i;
+    «table_rows» = part-getD (planWords (s .plan)) (progressOf s) 1162 4 long i;
+    used = (ap (take 128) (part-drop (planWords (s .plan)) (progressOf s) 1162 5 long) ∙ take-at (s .used) (s .phase ∷ []) 128 u) i;
+    phase = (part-getD (planWords (s .plan)) (progressOf s) 1162 133 long ∙ getD-at (s .used) (s .phase) [] 0 128 u) i;
   }
 
   -- and a state
@@ -170,6 +168,9 @@ pub handed-long : (new old : List ℕ) (n : ℕ) → length new ≡ n → n ≤ 
 handed-long new old n e h =
     let k : length new ≤ length old = omega arith in
     ap (λ (j : ℕ). new ++ drop j old) (sym e) ∙ sym (rw (le-leb (length new) (length old) k))
+
+pub progressed-short : (new old : List ℕ) → length old < stateLength → progressed new old ≡ old
+progressed-short new old h = rw (lt-leb stateLength (length old) h)
 
 -- the lengths add up
 two-long : (xs ys : List ℕ) (a b : ℕ) → length xs ≡ a → length ys ≡ b → length (xs ++ ys) ≡ a + b
@@ -225,34 +226,62 @@ module _ (q : Plan) (old : List ℕ) (g : length (q .gates) ≡ 384) (n : length
       let fe : e ≡ (to-nodes ++ tailWords q) ++ drop planLength old = ee ∙ paste-next to-nodes (tailWords q) old d 1158 4 long-nodes refl fd in
       fe ∙ ap (λ (l : List ℕ). l ++ drop planLength old) in-parts ∙ handed-long (planWords q) old planLength (plan-length q g n) h
 
--- and a state
-module _ (s : Intake) (old : List ℕ) (g : length (s .plan .gates) ≡ 384) (n : length (s .plan .nodes) ≡ 765) (u : length (s .used) ≡ 128) (h : stateLength ≤ length old) where
+-- what a state has besides its plan, part after part
+module _ (rows words cells tables stacked phase : ℕ) (used old : List ℕ) (u : length used ≡ 128) (h : stateLength ≤ length old) where
+  abbrev five : List ℕ
+  five = rows ∷ words ∷ cells ∷ tables ∷ stacked ∷ []
+
   abbrev to-counts : List ℕ
-  to-counts = planWords (s .plan) ++ countWords s
+  to-counts = take planLength old ++ five
 
   abbrev to-used : List ℕ
-  to-used = to-counts ++ s .used
+  to-used = to-counts ++ used
 
   long-counts : length to-counts ≡ 1167
-  long-counts = two-long (planWords (s .plan)) (countWords s) 1162 5 (plan-length (s .plan) g n) refl
+  long-counts = two-long (take planLength old) five 1162 5 (length-take-le planLength old (omega arith)) refl
 
   long-used : length to-used ≡ 1295
-  long-used = two-long to-counts (s .used) 1167 128 long-counts u
+  long-used = two-long to-counts used 1167 128 long-counts u
 
-  state-parts : to-used ++ (s .phase ∷ []) ≡ intakeWords s
-  state-parts =
-      append-assoc to-counts (s .used) (s .phase ∷ []) ∙ append-assoc (planWords (s .plan)) (countWords s) (s .used ++ (s .phase ∷ []))
+  pub progress-written : (a b : List ℕ) → a ≡ paste old 1162 five 5 → b ≡ paste a 1167 used (length used)
+      → set b 1295 phase ≡ progressed (progressWords rows words cells tables stacked used phase) old
+  progress-written a b ea eb =
+      let fa : a ≡ to-counts ++ drop 1167 old = ea ∙ paste-next (take planLength old) five old old 1162 5 (length-take-le planLength old (omega arith)) refl (sym (take-append-drop planLength old)) in
+      let fb : b ≡ to-used ++ drop 1295 old = eb ∙ paste-next to-counts used old a 1167 128 long-counts u fa in
+      let new = progressWords rows words cells tables stacked used phase in
+      let parts = append-assoc to-counts used (phase ∷ []) ∙ append-assoc (take planLength old) five (used ++ (phase ∷ [])) in
+      set-next to-used old b 1295 phase long-used (omega arith) fb
+      ∙ ap (λ (l : List ℕ). l ++ drop stateLength old) parts
+      ∙ append-assoc (take planLength old) new (drop stateLength old)
+      ∙ sym (pick-yes (leb stateLength (length old)) (take planLength old ++ (new ++ drop stateLength old)) old (le-leb stateLength (length old) h))
 
-  pub state-written : (a b d : List ℕ) → a ≡ handed (planWords (s .plan)) old → b ≡ paste a 1162 (countWords s) 5 → d ≡ paste b 1167 (s .used) (length (s .used))
-      → set d 1295 (s .phase) ≡ handed (intakeWords s) old
-  state-written a b d ea eb ed =
-      let p = handed-long (planWords (s .plan)) old planLength (plan-length (s .plan) g n) (omega arith) in
-      let fa : a ≡ planWords (s .plan) ++ drop planLength old = ea ∙ sym p in
-      let fb : b ≡ to-counts ++ drop 1167 old = eb ∙ paste-next (planWords (s .plan)) (countWords s) old a 1162 5 (plan-length (s .plan) g n) refl fa in
-      let fd : d ≡ to-used ++ drop 1295 old = ed ∙ paste-next to-counts (s .used) old b 1167 128 long-counts u fb in
-      set-next to-used old d 1295 (s .phase) long-used (omega arith) fd
-      ∙ ap (λ (l : List ℕ). l ++ drop stateLength old) state-parts
+-- and a state, the plan first
+module _ (s : Intake) (old : List ℕ) (g : length (s .plan .gates) ≡ 384) (n : length (s .plan .nodes) ≡ 765) (u : length (s .used) ≡ 128) where
+  pub state-written : stateLength ≤ length old → (a : List ℕ) → a ≡ handed (planWords (s .plan)) old → progressed (progressOf s) a ≡ handed (intakeWords s) old
+  state-written h a e =
+      let front = planWords (s .plan) in
+      let new = progressOf s in
+      let l = plan-length (s .plan) g n in
+      let w = front ++ drop planLength old in
+      let p : a ≡ w = e ∙ sym (handed-long front old planLength l (omega arith)) in
+      let k : stateLength ≤ length w = omega (arith, l, length-append front (drop planLength old), length-drop planLength old) in
+      ap (progressed new) p
+      ∙ pick-yes (leb stateLength (length w)) (take planLength w ++ (new ++ drop stateLength w)) w (le-leb stateLength (length w) k)
+      ∙ ap (λ (r : List ℕ). r ++ (new ++ drop stateLength w)) (take-at front (drop planLength old) planLength l)
+      ∙ ap (λ (r : List ℕ). front ++ (new ++ r)) (part-drop front (drop planLength old) 1162 134 l ∙ drop-drop 134 1162 old)
+      ∙ sym (append-assoc front new (drop stateLength old))
       ∙ handed-long (intakeWords s) old stateLength (state-length s g n u) h
+
+  -- where the plan's words are there already the rest is all that is left to write
+  pub state-progressed : handed (planWords (s .plan)) old ≡ old → progressed (progressOf s) old ≡ handed (intakeWords s) old
+  state-progressed e = by (decLe stateLength (length old))
+    where
+      by : Dec (stateLength ≤ length old) → progressed (progressOf s) old ≡ handed (intakeWords s) old
+      by (yes h) = state-written h old (sym e)
+      by (no d) =
+          let h : length old < stateLength = omega arith in
+          let k : length old < length (intakeWords s) = omega (arith, state-length s g n u) in
+          progressed-short (progressOf s) old h ∙ handed-short (intakeWords s) old k
 
 -- ---- what the reading functions answer
 pub paste-all : (xs old : List ℕ) → length xs ≡ length old → paste old 0 xs (length xs) ≡ xs
@@ -332,3 +361,90 @@ state-made ws e q us eq eu =
       phase = getD ws 1295 0;
     })
     ∙ state-read ws e
+
+-- ---- words that are decoded and encoded again
+-- the plan of zeros is a made-up one
+pub zero-fault : planFault zeroPlan ≡ 19
+unfolding planFault
+zero-fault = by (eqb (parametersNumber (parametersOf zeroPlan)) 0)
+  where
+    by : (t : Bool) → _≡_ {A = ℕ} (pick t 19 19) 19
+    by true = refl
+    by false = refl
+
+-- the lookup mode of three words that fit answers for them
+mode-again : (p : Parameters) → lookupFits (p .mode) (p .width) (p .share) ≡ true → LookupWords p (lookupOf p)
+unfolding lookupFits lookupOf
+mode-again p e = by (ℕ-discrete (p .mode) 1) (ℕ-discrete (p .mode) 2) (ℕ-discrete (p .mode) 3) (ℕ-discrete (p .mode) 4)
+  where
+    none : Bool
+    none = both (eqb (p .width) 0) (eqb (p .share) 0)
+
+    modes : (leb (p .mode) 4 ≡ true) × (both (leb (p .share) 1) (pick (eqb (p .mode) 0) none true) ≡ true)
+    modes = both-true (leb (p .mode) 4) (both (leb (p .share) 1) (pick (eqb (p .mode) 0) none true)) e
+
+    flags : (leb (p .share) 1 ≡ true) × (pick (eqb (p .mode) 0) none true ≡ true)
+    flags = both-true (leb (p .share) 1) (pick (eqb (p .mode) 0) none true) (modes .1)
+
+    share : Dec (p .share ≡ 1) → flagOf (eqb (p .share) 1) ≡ p .share
+    share (yes a) = rw (eq-eqb (p .share) 1 a) (sym a)
+    share (no a) = rw (ne-eqb (p .share) 1 a) (omega (arith, leb-true (p .share) 1 (flags .0)))
+
+    by : Dec (p .mode ≡ 1) → Dec (p .mode ≡ 2) → Dec (p .mode ≡ 3) → Dec (p .mode ≡ 4) → LookupWords p (lookupOf p)
+    by (yes a) b c d = rw (eq-eqb (p .mode) 1 a) (record { mode = sym a; width = refl; share = share (ℕ-discrete (p .share) 1) })
+    by (no a) (yes b) c d = rw (ne-eqb (p .mode) 1 a, eq-eqb (p .mode) 2 b) (record { mode = sym b; width = refl; share = share (ℕ-discrete (p .share) 1) })
+    by (no a) (no b) (yes c) d =
+        rw (ne-eqb (p .mode) 1 a, ne-eqb (p .mode) 2 b, eq-eqb (p .mode) 3 c) (record { mode = sym c; width = refl; share = share (ℕ-discrete (p .share) 1) })
+    by (no a) (no b) (no c) (yes d) =
+        rw (ne-eqb (p .mode) 1 a, ne-eqb (p .mode) 2 b, ne-eqb (p .mode) 3 c, eq-eqb (p .mode) 4 d) (record { mode = sym d; width = refl; share = share (ℕ-discrete (p .share) 1) })
+    by (no a) (no b) (no c) (no d) =
+        let z : p .mode ≡ 0 = omega (arith, leb-true (p .mode) 4 (modes .0)) in
+        let w = both-true (eqb (p .width) 0) (eqb (p .share) 0) (sym (pick-yes (eqb (p .mode) 0) none true (eq-eqb (p .mode) 0 z)) ∙ flags .1) in
+        rw (ne-eqb (p .mode) 1 a, ne-eqb (p .mode) 2 b, ne-eqb (p .mode) 3 c, ne-eqb (p .mode) 4 d)
+        (record { mode = sym z; width = sym (eqb-true (p .width) 0 (w .0)); share = sym (eqb-true (p .share) 0 (w .1)) })
+
+word-again : (ws : List ℕ) (i : ℕ) (rest : List ℕ) → i < length ws → rest ≡ drop (suc i) ws → getD ws i 0 ∷ rest ≡ drop i ws
+word-again ws i rest h e = ap (λ (l : List ℕ). getD ws i 0 ∷ l) e ∙ sym (drop-cons ws i 0 h)
+
+words-again : (ws : List ℕ) (i n : ℕ) (rest : List ℕ) → rest ≡ drop (i + n) ws → take n (drop i ws) ++ rest ≡ drop i ws
+words-again ws i n rest e = ap (λ (l : List ℕ). take n (drop i ws) ++ l) (e ∙ sym (drop-drop n i ws)) ∙ take-append-drop n (drop i ws)
+
+module _ (ws : List ℕ) (e : length ws ≡ planLength) (f : lookupFits (getD ws 5 0) (getD ws 6 0) (getD ws 7 0) ≡ true) where
+  tail-again : tailWords (planAt ws) ≡ drop 1158 ws
+  tail-again =
+      word-again ws 1158 _ (omega arith)
+      (word-again ws 1159 _ (omega arith) (word-again ws 1160 _ (omega arith) (word-again ws 1161 [] (omega arith) (sym (drop-length ws) ∙ ap (λ (k : ℕ). drop k ws) e))))
+
+  parts-again : take 384 (drop 8 ws) ++ (getD ws 392 0 ∷ (take 765 (drop 393 ws) ++ tailWords (planAt ws))) ≡ drop 8 ws
+  parts-again = words-again ws 8 384 _ (word-again ws 392 _ (omega arith) (words-again ws 393 765 _ tail-again))
+
+  plan-again : planWords (planAt ws) ≡ ws
+  plan-again =
+      let l = mode-again (parametersAt ws) f in
+      rw (l .mode, l .width, l .share)
+      (word-again ws 0 _ (omega arith)
+      (word-again ws 1 _ (omega arith)
+      (word-again ws 2 _ (omega arith)
+      (word-again ws 3 _ (omega arith) (word-again ws 4 _ (omega arith) (word-again ws 5 _ (omega arith) (word-again ws 6 _ (omega arith) (word-again ws 7 _ (omega arith) parts-again))))))))
+
+-- encoding what was decoded gives the words, where the plan has no fault
+pub sound-again : (ws : List ℕ) → planFault (planOf ws) ≡ 0 → planWords (planOf ws) ≡ ws
+sound-again ws z = by (ℕ-discrete (length ws) planLength) (lookupFits (getD ws 5 0) (getD ws 6 0) (getD ws 7 0)) refl
+  where
+    by : Dec (length ws ≡ planLength) → (t : Bool) → lookupFits (getD ws 5 0) (getD ws 6 0) (getD ws 7 0) ≡ t → planWords (planOf ws) ≡ ws
+    by (no d) t f = absurd (omega (arith, zero-fault, ap planFault (plan-other ws d), z))
+    by (yes e) false f = absurd (omega (arith, zero-fault, ap planFault (plan-none ws e f), z))
+    by (yes e) true f = ap planWords (sym (plan-read ws e f)) ∙ plan-again ws e f
+
+-- the words of a state whose plan has no fault have those of the plan in front
+pub plan-there : (ws : List ℕ) → planFault (intakeOf ws .plan) ≡ 0 → handed (planWords (intakeOf ws .plan)) ws ≡ ws
+plan-there ws z = by (ℕ-discrete (length ws) stateLength)
+  where
+    by : Dec (length ws ≡ stateLength) → handed (planWords (intakeOf ws .plan)) ws ≡ ws
+    by (no d) = absurd (omega (arith, zero-fault, ap (λ (s : Intake). planFault (s .plan)) (state-other ws d), z))
+    by (yes e) =
+        let p : intakeOf ws .plan ≡ planOf (take planLength ws) = ap (λ (s : Intake). s .plan) (sym (state-read ws e)) in
+        let q = sound-again (take planLength ws) (ap planFault (sym p) ∙ z) in
+        ap (λ (l : List ℕ). handed l ws) (ap planWords p ∙ q)
+        ∙ sym (handed-long (take planLength ws) ws planLength (length-take-le planLength ws (omega arith)) (omega arith))
+        ∙ take-append-drop planLength ws

@@ -1,10 +1,10 @@
 // Plans and states as words, in the order of their fields.
 ghost use mathlib.Core.Path.{_≡_};
-ghost use Prim.Native.Nat.{ℕ, _+_, _≤_};
+ghost use Prim.Native.Nat.{_+_, _≤_};
 ghost use lib.ListN.{getD, length};
 ghost use lib.Seq.{paste};
 ghost use Rattle.parameters.specs.Lookup.{flagOf};
-ghost use Rattle.encoding.specs.Encoding.{handed, intakeOf, intakeWords, lookupFits, parametersAt, planOf, planWords, zeroIntake};
+ghost use Rattle.encoding.specs.Encoding.{handed, intakeOf, intakeWords, lookupFits, parametersAt, planOf, planWords, progressWords, progressed};
 use columns::intake::Intake;
 use columns::intake::NEVER;
 use parameters::parameters::Parameters;
@@ -194,6 +194,28 @@ pub fn decode_state(words: &[u64]) -> Intake
     }
 }
 
+// What a call changes of a state goes behind the words of its plan, which stay; a slice that is too
+// short keeps all its words.
+pub fn encode_progress(
+    rows: u64,
+    s_words: u64,
+    cells: u64,
+    tables: u64,
+    table_rows: u64,
+    used: [u64; 128],
+    phase: u64,
+    words: &mut [u64],
+)
+    ensures { λ _. ⌜ now (words .exit) ≡ progressed (progressWords rows «s_words» cells tables «table_rows» used phase) (now (words .entry)) ⌝ }
+{
+    if STATE_WORDS <= words.len() {
+        let counts = [rows, s_words, cells, tables, table_rows];
+        copy_words(&counts, PLAN_WORDS, words);
+        copy_words(&used, COUNTS_END, words);
+        words[USED_END] = phase;
+    }
+}
+
 // The words of a state go to the front of a slice; one that is too short keeps all its words.
 pub fn encode_state(state: Intake, words: &mut [u64])
     ensures { λ _. ⌜ now (words .exit) ≡ handed (intakeWords state) (now (words .entry)) ⌝ }
@@ -202,15 +224,15 @@ pub fn encode_state(state: Intake, words: &mut [u64])
         return;
     }
     encode_plan(state.plan, words);
-    let counts = [
+    let used = state.used;
+    encode_progress(
         state.rows,
         state.s_words,
         state.cells,
         state.tables,
         state.table_rows,
-    ];
-    copy_words(&counts, PLAN_WORDS, words);
-    let used = state.used;
-    copy_words(&used, COUNTS_END, words);
-    words[USED_END] = state.phase;
+        used,
+        state.phase,
+        words,
+    );
 }

@@ -5,7 +5,7 @@ use mathlib.Core.Path.{_∙_, ap}
 use Rattle.columns.specs.Intake.{cellsAnswer, cellsLeft}
 use Rattle.columns.specs.declared.intake.Intake.{Intake}
 use Rattle.pieces.specs.Setting.{cols}
-use Rattle.capi.specs.IntakeLaws.{passed}
+use Rattle.capi.specs.IntakeLaws.{cells-there, passed}
 use Rattle.capi.proofs.intake.setup_cells.Statement.{statement}
 use Rattle.capi.proofs.intake.setup_cells.Tie as tie
 
@@ -16,7 +16,8 @@ cells-requires : tie.Need-cells-requires
 cells-requires c κs = search needs
 
 give-back-requires : tie.Need-give-back-requires
-give-back-requires c κs = search needs
+give-back-requires c κs =
+    cells-there _ _ _ (c .before .before .before .before .before .before .before .before .decode-state .ensures) _ _ (c .before .before .before .before .before .cells .ensures .0)
 
 same-length : tie.Need-same-length
 same-length c = search needs

@@ -5,7 +5,7 @@ use mathlib.Core.Path.{_∙_, ap}
 use Rattle.columns.specs.Intake.{finishAnswer, finishLeft}
 use Rattle.columns.specs.declared.intake.Intake.{Intake}
 use Rattle.pieces.specs.Setting.{cols}
-use Rattle.capi.specs.IntakeLaws.{passed}
+use Rattle.capi.specs.IntakeLaws.{finish-there, passed}
 use Rattle.capi.proofs.intake.setup_finish.Statement.{statement}
 use Rattle.capi.proofs.intake.setup_finish.Tie as tie
 
@@ -16,7 +16,8 @@ finish-requires : tie.Need-finish-requires
 finish-requires c κs = search needs
 
 give-back-requires : tie.Need-give-back-requires
-give-back-requires c κs = search needs
+give-back-requires c κs =
+    finish-there _ _ _ (c .before .before .before .before .before .decode-state .ensures) _ (c .before .before .before .finish .ensures .0)
 
 same-length : tie.Need-same-length
 same-length c = search needs

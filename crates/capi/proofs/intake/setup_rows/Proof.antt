@@ -4,7 +4,7 @@ use borrow.Author.Needs.{needs}
 use mathlib.Core.Path.{_∙_, ap}
 use Rattle.columns.specs.Intake.{rowsAnswer, rowsLeft}
 use Rattle.columns.specs.declared.intake.Intake.{Intake}
-use Rattle.capi.specs.IntakeLaws.{passed}
+use Rattle.capi.specs.IntakeLaws.{passed, rows-there}
 use Rattle.capi.proofs.intake.setup_rows.Statement.{statement}
 use Rattle.capi.proofs.intake.setup_rows.Tie as tie
 
@@ -15,7 +15,8 @@ rows-requires : tie.Need-rows-requires
 rows-requires c κs = search needs
 
 give-back-requires : tie.Need-give-back-requires
-give-back-requires c κs = search needs
+give-back-requires c κs =
+    rows-there _ _ _ (c .before .before .before .before .before .decode-state .ensures) _ _ (c .before .before .before .rows .ensures .0)
 
 same-length : tie.Need-same-length
 same-length c = search needs

@@ -4,7 +4,7 @@ use borrow.Author.Needs.{needs}
 use mathlib.Core.Path.{_∙_, ap}
 use Rattle.columns.specs.Intake.{sWordsAnswer, sWordsLeft}
 use Rattle.columns.specs.declared.intake.Intake.{Intake}
-use Rattle.capi.specs.IntakeLaws.{passed}
+use Rattle.capi.specs.IntakeLaws.{passed, words-there}
 use Rattle.capi.proofs.intake.setup_s_words.Statement.{statement}
 use Rattle.capi.proofs.intake.setup_s_words.Tie as tie
 
@@ -15,7 +15,8 @@ s-words-requires : tie.Need-s-words-requires
 s-words-requires c κs = search needs
 
 give-back-requires : tie.Need-give-back-requires
-give-back-requires c κs = search needs
+give-back-requires c κs =
+    words-there _ _ _ (c .before .before .before .before .before .decode-state .ensures) _ _ (c .before .before .before .s-words .ensures .0)
 
 same-length : tie.Need-same-length
 same-length c = search needs

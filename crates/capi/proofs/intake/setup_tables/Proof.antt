@@ -4,7 +4,7 @@ use borrow.Author.Needs.{needs}
 use mathlib.Core.Path.{_∙_, ap}
 use Rattle.columns.specs.Intake.{tablesAnswer, tablesLeft}
 use Rattle.columns.specs.declared.intake.Intake.{Intake}
-use Rattle.capi.specs.IntakeLaws.{passed}
+use Rattle.capi.specs.IntakeLaws.{passed, tables-there}
 use Rattle.capi.proofs.intake.setup_tables.Statement.{statement}
 use Rattle.capi.proofs.intake.setup_tables.Tie as tie
 
@@ -15,7 +15,8 @@ tables-requires : tie.Need-tables-requires
 tables-requires c κs = search needs
 
 give-back-requires : tie.Need-give-back-requires
-give-back-requires c κs = search needs
+give-back-requires c κs =
+    tables-there _ _ _ (c .before .before .before .before .before .decode-state .ensures) _ _ (c .before .before .before .tables .ensures .0)
 
 same-length : tie.Need-same-length
 same-length c = search needs

@@ -1,7 +1,7 @@
--- `encoding::encode_state` meets its contract: each part is written behind those already there, the plan first.
+-- `encoding::encode_state` meets its contract: the plan is written, and the rest behind it.
 -- Assumes nothing.
 use borrow.Author.Needs.{needs}
-use lib.ListN.{length, length-set}
+use lib.ListN.{length}
 use mathlib.Core.Path.{_∙_, _≡_}
 use native.Mathlib.Omega.{arith}
 use Rattle.encoding.specs.Encoding.{intakeWords}
@@ -28,32 +28,18 @@ returns c =
 encode-plan-requires : tie.Need-encode-plan-requires
 encode-plan-requires c κs = search needs
 
-slice-aggregate-copy-words : tie.Need-slice-aggregate-copy-words
-slice-aggregate-copy-words c = search needs
-
-copy-words-requires : tie.Need-copy-words-requires
-copy-words-requires c κs = search needs
-
-slice-aggregate-copy-words-2 : tie.Need-slice-aggregate-copy-words-2
-slice-aggregate-copy-words-2 c = search needs
-
-copy-words-requires-2 : tie.Need-copy-words-requires-2
-copy-words-requires-2 c κs =
-    omega (arith, used-long (c .before .before .before .before .before .before .before .before .before .before .before .before .before .before), c .before .before .before .before .before .copy-words .kept .1 .1 .0, c .before .before .before .before .before .before .before .before .before .before .encode-plan .kept .1 .0, c .before .before .before .before .before .before .before .before .before .before .before .before .if1 .left)
-
-slice-write-words : tie.Need-slice-write-words
-slice-write-words c = search needs
+encode-progress-requires : tie.Need-encode-progress-requires
+encode-progress-requires c κs = search needs
 
 same-length : tie.Need-same-length
-same-length c =
-    length-set (c .before .before .copy-words2 .last .1 .1 .0) 1295 (c .before .before .before .before .before .before .before .before .before .before .before .before .before .before .before .before .before .args .state .phase) ∙ c .before .before .copy-words2 .kept .1 .1 .0 ∙ c .before .before .before .before .before .before .before .before .copy-words .kept .1 .1 .0 ∙ c .before .before .before .before .before .before .before .before .before .before .before .before .before .encode-plan .kept .1 .0
+same-length c = search needs
 
 returns-2 : tie.Need-returns-2
 returns-2 c =
-    let a = c .before .before .before .before .before .before .before .before .before .before .before .before .before .before .before .before .before .args in
-    let s = c .before .before .before .before .before .before .before .before .before .before .before .before .before .before .before .before .before in
-    state-written (a .state) (a .words .now) (gates-long s) (nodes-long s) (used-long s) (c .before .before .before .before .before .before .before .before .before .before .before .before .before .before .before .if1 .left)
-    _ _ _ (c .before .before .before .before .before .before .before .before .before .before .before .before .before .encode-plan .ensures) (c .before .before .before .before .before .before .before .before .copy-words .ensures) (c .before .before .copy-words2 .ensures)
+    let s = c .before .before .before .before .before .before .before .before .before .before .before in
+    let a = s .args in
+    c .before .before .encode-progress .ensures
+    ∙ state-written (a .state) (a .words .now) (gates-long s) (nodes-long s) (used-long s) (c .before .before .before .before .before .before .before .before .before .if1 .left) _ (c .before .before .before .before .before .before .before .encode-plan .ensures)
 
 pub encode-state-spec : {M : Type 1} → statement M
 encode-state-spec =
@@ -61,10 +47,6 @@ encode-state-spec =
     (tie.spec
     returns
     encode-plan-requires
-    slice-aggregate-copy-words
-    copy-words-requires
-    slice-aggregate-copy-words-2
-    copy-words-requires-2
-    slice-write-words
+    encode-progress-requires
     same-length
     returns-2)

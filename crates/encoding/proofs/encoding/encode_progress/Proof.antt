@@ -1,0 +1,57 @@
+-- `encoding::encode_progress` meets its contract: counts, marks and phase are written behind the plan's words.
+-- Assumes nothing.
+use borrow.Author.Needs.{needs}
+use lib.ListN.{length, length-set}
+use mathlib.Core.Path.{_∙_, _≡_, sym}
+use Rattle.encoding.specs.Encoding.{progressWords}
+use Rattle.encoding.specs.EncodingLaws.{progress-written, progressed-short}
+use Rattle.encoding.proofs.encoding.encode_progress.Statement.{statement}
+use Rattle.encoding.proofs.encoding.encode_progress.Tie as tie
+
+-- an array by value has its length
+used-long : (c : tie.Start) → length (c .args .t6) ≡ 128
+used-long c = search needs
+
+slice-aggregate-copy-words : tie.Need-slice-aggregate-copy-words
+slice-aggregate-copy-words c = search needs
+
+copy-words-requires : tie.Need-copy-words-requires
+copy-words-requires c κs = search needs
+
+slice-aggregate-copy-words-2 : tie.Need-slice-aggregate-copy-words-2
+slice-aggregate-copy-words-2 c = search needs
+
+copy-words-requires-2 : tie.Need-copy-words-requires-2
+copy-words-requires-2 c κs = search needs
+
+slice-write-words : tie.Need-slice-write-words
+slice-write-words c = search needs
+
+same-length : tie.Need-same-length
+same-length c =
+    length-set (c .before .before .copy-words2 .last .1 .1 .0) 1295 (c .before .before .before .before .before .before .before .before .before .before .before .before .args .phase) ∙ c .before .before .copy-words2 .kept .1 .1 .0 ∙ c .before .before .before .before .before .before .before .copy-words .kept .1 .1 .0
+
+returns : tie.Need-returns
+returns c =
+    let s = c .before .before .before .before .before .before .before .before .before .before .before .before in
+    let a = s .args in
+    progress-written (a .rows) (a .s-words) (a .cells) (a .tables) (a .table-rows) (a .phase) (a .t6) (a .words .now) (used-long s) (c .before .before .before .before .before .before .before .before .before .before .if1 .taken)
+    _ _ (c .before .before .before .before .before .before .before .copy-words .ensures) (c .before .before .copy-words2 .ensures)
+
+returns-2 : tie.Need-returns-2
+returns-2 c =
+    let a = c .before .before .args in
+    sym (progressed-short (progressWords (a .rows) (a .s-words) (a .cells) (a .tables) (a .table-rows) (a .t6) (a .phase)) (a .words .now) (c .if1 .left))
+
+pub encode-progress-spec : {M : Type 1} → statement M
+encode-progress-spec =
+    tie.close
+    (tie.spec
+    slice-aggregate-copy-words
+    copy-words-requires
+    slice-aggregate-copy-words-2
+    copy-words-requires-2
+    slice-write-words
+    same-length
+    returns
+    returns-2)
