@@ -1,7 +1,7 @@
 // Cell words: the copy columns and the scratch words grow together.
 ghost use mathlib.Core.Path.{_≡_};
 ghost use mathlib.Core.Bool.{true};
-ghost use Prim.Native.Nat.{ℕ, _+_, _*_, _<_, _≤_};
+ghost use Prim.Native.Nat.{ℕ, _+_, _*_, _^_, _<_, _≤_};
 ghost use lib.ListN.{length, getD};
 ghost use Rattle.pieces.specs.Setting.{cols};
 ghost use Rattle.pieces.specs.Cells.{placeholder, indexOf, cellFault, cellsFault, placeCell, cellsRun};
@@ -10,6 +10,8 @@ ghost use Rattle.base.specs.Pick.{pick};
 ghost use Rattle.base.specs.Quarters.{Fourfold};
 ghost use Rattle.columns.specs.Quick.{Named};
 use cs::Variable;
+
+const HIGHEST_BIT: u64 = 9223372036854775808;
 
 // The number of one cell word, 0 where it has no fault.
 fn cell_fault(total: u64, vars: u64, cell: u64, variable: Variable) -> u64
@@ -45,42 +47,41 @@ fn first_fault(total: u64, vars: u64, count: u64, piece: &[u64]) -> u64
     0
 }
 
-// 1 for a placeholder and for the index of a variable, else 0, without a branch: the borrow of the
-// index less a bound, which for a placeholder is past any index.
+// A word whose highest bit is set only for a placeholder and for the index of a variable with no bits
+// above it: the difference borrows below the number of variables. There is no branch.
 fn is_named(vars: u64, word: u64) -> u64
     requires { ⌜ vars ≤ 4294967296 ⌝ }
-    ensures { λ r. ⌜ (r ≤ 1) × (r ≡ 1 → word < placeholder → indexOf word < vars) ⌝ }
+    ensures { λ r. ⌜ (2 ^ 63 ≤ r → word < placeholder → indexOf word < vars) ⌝ }
 {
-    let bound = vars + (word >> 63) * 281474976710656;
-    std::num::wrapping_sub_u64(Variable(word).as_variable_index(), bound) >> 63
+    std::num::wrapping_sub_u64(word, vars) | word
 }
 
-// How many of the words at place `at` and one, two and three times `step` behind it are so.
+// The same for the words at place `at` and one, two and three times `step` behind it, all four.
 fn four_named(vars: u64, piece: &[u64], at: usize, step: usize) -> u64
     requires { ⌜ (vars ≤ 4294967296) × (at + 3 * step < length (now piece)) ⌝ }
-    ensures { λ r. ⌜ (r ≤ 4) × (r ≡ 4 → Fourfold (Named vars (now (piece .entry))) step at) ⌝ }
+    ensures { λ r. ⌜ (2 ^ 63 ≤ r → Fourfold (Named vars (now (piece .entry))) step at) ⌝ }
 {
-    let near = is_named(vars, piece[at]) + is_named(vars, piece[at + step]);
-    let far = is_named(vars, piece[at + 2 * step]) + is_named(vars, piece[at + 3 * step]);
-    near + far
+    let near = is_named(vars, piece[at]) & is_named(vars, piece[at + step]);
+    let far = is_named(vars, piece[at + 2 * step]) & is_named(vars, piece[at + 3 * step]);
+    near & far
 }
 
-// Whether every word is a placeholder or the index of a variable, so that none is faulty in a cell of
-// the section. The loop runs to its end and has no branch, so that the compiler takes several words at
-// a time, and it walks four quarters side by side, as the test for words below p does.
+// Whether every word is so, and then none is faulty in a cell of the section. The loop runs to its end
+// and has no branch, so that the compiler takes several words at a time, and it walks four quarters
+// side by side, as the test for words below p does.
 fn all_named(vars: u64, piece: &[u64]) -> bool
     requires { ⌜ vars ≤ 4294967296 ⌝ }
     ensures { λ r. ⌜ (r ≡ true → (total k : ℕ) → k + length (now (piece .entry)) ≤ total → cellsFault total vars k (now (piece .entry)) ≡ 0) ⌝ }
 {
     let step = piece.len() / 4;
     let turns = piece.len() - 3 * step;
-    let mut named: u64 = 0;
+    let mut named: u64 = HIGHEST_BIT;
     let mut i = 0;
     while i < turns {
-        named = named + four_named(vars, piece, i, step);
+        named = named & four_named(vars, piece, i, step);
         i = i + 1;
     }
-    named / 4 == turns as u64
+    HIGHEST_BIT <= named
 }
 
 // The number of the first faulty word of a piece.

@@ -1,6 +1,7 @@
--- `columns::cells::four_named` meets its contract: four are counted only where each is.
+-- `columns::cells::four_named` meets its contract: what all four have together, each has.
 -- Assumes nothing.
 use native.Mathlib.Omega.{arith}
+use lib.Bits.{bitAnd, and-le-l, and-le-r}
 use borrow.Author.Needs.{needs}
 use Rattle.columns.proofs.cells.four_named.Statement.{statement}
 use Rattle.columns.proofs.cells.four_named.Tie as tie
@@ -28,9 +29,6 @@ shared-slice-read-is-named-2 c = search needs
 
 is-named-requires-2 : tie.Need-is-named-requires-2
 is-named-requires-2 c κs = search needs
-
-add-near : tie.Need-add-near
-add-near c = search needs
 
 mul-is-named-3 : tie.Need-mul-is-named-3
 mul-is-named-3 c = search needs
@@ -62,25 +60,19 @@ shared-slice-read-is-named-4 c = search needs
 is-named-requires-4 : tie.Need-is-named-requires-4
 is-named-requires-4 c κs = search needs
 
-add-far : tie.Need-add-far
-add-far c = search needs
-
-add-result : tie.Need-add-result
-add-result c = search needs
-
 returns : tie.Need-returns
 returns c =
-    let one = c .before .before .before .before .before .before .is-named .ensures in
-    let two = c .before .before .before .before .is-named2 .ensures in
-    let three = c .before .before .is-named3 .ensures in
-    let four = c .is-named4 .ensures in (
-      omega (arith, one .0, two .0, three .0, four .0),
-      λ e. (
-        one .1 (omega (arith, e, two .0, three .0, four .0, one .0)),
-        two .1 (omega (arith, e, two .0, three .0, four .0, one .0)),
-        three .1 (omega (arith, e, two .0, three .0, four .0, one .0)),
-        four .1 (omega (arith, e, two .0, three .0, four .0, one .0)),
-      ),
+    let one = c .before .before .before .before .before .before .is-named in
+    let two = c .before .before .before .before .is-named2 in
+    let three = c .before .before .is-named3 in
+    let four = c .is-named4 in
+    let near = bitAnd (one .result) (two .result) in
+    let far = bitAnd (three .result) (four .result) in
+    λ high. (
+      one .ensures (omega (arith, high, and-le-l near far, and-le-l (one .result) (two .result))),
+      two .ensures (omega (arith, high, and-le-l near far, and-le-r (one .result) (two .result))),
+      three .ensures (omega (arith, high, and-le-r near far, and-le-l (three .result) (four .result))),
+      four .ensures (omega (arith, high, and-le-r near far, and-le-r (three .result) (four .result))),
     )
 
 pub four-named-spec : {M : Type 1} → statement M
@@ -94,7 +86,6 @@ four-named-spec =
     mul-is-named-2
     shared-slice-read-is-named-2
     is-named-requires-2
-    add-near
     mul-is-named-3
     add-is-named-2
     mul-is-named-4
@@ -105,6 +96,4 @@ four-named-spec =
     mul-is-named-6
     shared-slice-read-is-named-4
     is-named-requires-4
-    add-far
-    add-result
     returns)
