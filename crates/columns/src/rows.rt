@@ -16,8 +16,8 @@ use crate::records::write_path;
 use crate::records::write_same;
 use crate::records::write_words;
 
-// Words that are tested together: 64 KB, which stay in the second cache until their records are read.
-const BLOCK: usize = 8192;
+// Words that are tested together: 32 KB, which stay in the first cache until their records are read.
+const BLOCK: usize = 4096;
 
 // Whether the words from the third up to `end` are below p, where the first `known` are known to be.
 fn constants_below(words: &[u64], end: usize, known: usize) -> bool

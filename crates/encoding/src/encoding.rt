@@ -194,6 +194,9 @@ pub fn decode_state(words: &[u64]) -> Intake
     }
 }
 
+// A mark for each gate, as a state has them.
+pub type Marks = [u64; 128];
+
 // What a call changes of a state goes behind the words of its plan, which stay; a slice that is too
 // short keeps all its words.
 pub fn encode_progress(
@@ -202,7 +205,7 @@ pub fn encode_progress(
     cells: u64,
     tables: u64,
     table_rows: u64,
-    used: [u64; 128],
+    used: Marks,
     phase: u64,
     words: &mut [u64],
 )
