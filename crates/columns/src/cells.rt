@@ -130,8 +130,8 @@ fn by_value(value: u64, unseen: u64, seen: u64) -> u64
     seen
 }
 
-// The same without a branch on whether the variable is seen: its two words and the cell's are all
-// written, those too that stay as they are.
+// A cell word again, without a branch on whether the variable is seen: its two words and the cell's are
+// all written, those too that stay as they are.
 fn choose_cell(cell: u64, variable: Variable, copies: &mut [u64], scratch: &mut [u64])
     requires { ⌜ cell < length (now copies) ⌝ }
     requires { ⌜ (variable .0 < placeholder → 2 * indexOf (variable .0) + 1 < length (now scratch)) ⌝ }
@@ -150,7 +150,7 @@ fn choose_cell(cell: u64, variable: Variable, copies: &mut [u64], scratch: &mut 
     copies[place] = by_value(value, word, value);
 }
 
-// The same in either way.
+// A cell word in either way.
 fn place_cell(
     scattered: bool,
     cell: u64,

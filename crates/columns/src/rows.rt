@@ -81,7 +81,7 @@ fn block_end(at: usize, long: usize) -> usize
     at + BLOCK
 }
 
-// The same for place `at` on: where nothing ahead is tested the next block is, so that the memory
+// What is known from place `at` on. Where nothing ahead is tested the next block is, so that the memory
 // brings it in four streams; records alone would be fetched one after the other.
 fn known_at(piece: &[u64], at: usize, known: Known) -> Known
     requires { ⌜ at ≤ length (now piece) ⌝ }

@@ -11,9 +11,6 @@ use Rattle.base.specs.Quarters.{Quarters, quarters-none, quarters-turn, quarter
 use Rattle.columns.specs.Quick.{Named, named-none}
 use Rattle.columns.proofs.cells.all_named.Statement.{statement}
 use Rattle.columns.proofs.cells.all_named.Tie as tie
-use Rattle.columns.proofs.cells.all_named.Reads as reads
-use Rattle.columns.proofs.cells.all_named.Lts as lts
-use Rattle.columns.proofs.cells.four_named.Reads as four-named-reads
 
 abbrev Inv-loop : tie.InvT-loop
 Inv-loop vars piece step turns named₀ i₀ named i = (i ≤ turns) × (2 ^ 63 ≤ named → Quarters (Named vars piece) step i)

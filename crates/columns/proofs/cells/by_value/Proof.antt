@@ -5,8 +5,6 @@ use borrow.Author.Tests.{eq-eqb, ne-eqb}
 use Rattle.base.specs.Pick.{pick-yes, pick-no}
 use Rattle.columns.proofs.cells.by_value.Statement.{statement}
 use Rattle.columns.proofs.cells.by_value.Tie as tie
-use Rattle.columns.proofs.cells.by_value.Reads as reads
-use Rattle.columns.proofs.cells.by_value.Lts as lts
 
 returns : tie.Need-returns
 returns c = sym (pick-yes _ _ _ (eq-eqb _ _ (c .if1 .taken)))

@@ -1,9 +1,9 @@
 -- `columns::cells::choose_cell` meets its contract: the two ways of a variable as one equation.
 -- Assumes nothing.
-use mathlib.Core.Path.{_≡_, sym, _∙_}
+use mathlib.Core.Path.{sym, _∙_}
 use native.Mathlib.Omega.{arith}
 use borrow.Author.Tests.{leb-true, leb-false}
-use Prim.Native.Nat.{ℕ, _+_, _*_, _<_}
+use Prim.Native.Nat.{_+_, _*_, _<_}
 use lib.ListN.{length, length-set}
 use Rattle.pieces.specs.Setting.{cols}
 use Rattle.pieces.specs.Cells.{placeholder, indexOf}
@@ -11,11 +11,6 @@ use Rattle.pieces.specs.CellLaws.{place-skip, place-chosen}
 use borrow.Author.Needs.{needs}
 use Rattle.columns.proofs.cells.choose_cell.Statement.{statement}
 use Rattle.columns.proofs.cells.choose_cell.Tie as tie
-use Rattle.columns.proofs.cells.choose_cell.Reads as reads
-use Rattle.columns.proofs.cells.choose_cell.Lts as lts
-use Rattle.columns.proofs.cells.by_value.Reads as by-value-reads
-use Rattle.cs.proofs.Variable.as_variable_index.Reads as as-variable-index-reads
-use Rattle.cs.proofs.Variable.is_placeholder.Reads as is-placeholder-reads
 
 is-placeholder-requires : tie.Need-is-placeholder-requires
 is-placeholder-requires c κs = search needs

@@ -5,9 +5,6 @@ use lib.Bits.{bitAnd, and-le-l, and-le-r}
 use borrow.Author.Needs.{needs}
 use Rattle.columns.proofs.cells.four_named.Statement.{statement}
 use Rattle.columns.proofs.cells.four_named.Tie as tie
-use Rattle.columns.proofs.cells.four_named.Reads as reads
-use Rattle.columns.proofs.cells.four_named.Lts as lts
-use Rattle.columns.proofs.cells.is_named.Reads as is-named-reads
 
 mul-is-named : tie.Need-mul-is-named
 mul-is-named c = search needs

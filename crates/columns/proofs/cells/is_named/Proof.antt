@@ -9,9 +9,6 @@ use Rattle.pieces.specs.Cells.{placeholder, indexOf}
 use borrow.Author.Needs.{needs}
 use Rattle.columns.proofs.cells.is_named.Statement.{statement}
 use Rattle.columns.proofs.cells.is_named.Tie as tie
-use Rattle.columns.proofs.cells.is_named.Reads as reads
-use Rattle.columns.proofs.cells.is_named.Lts as lts
-use Rattle.std.proofs.num.wrapping_sub_u64.Reads as wrapping-sub-u64-reads
 
 wrapping-sub-u64-requires : tie.Need-wrapping-sub-u64-requires
 wrapping-sub-u64-requires c κs = search needs

@@ -7,9 +7,6 @@ use lib.ListN.{length}
 use Prim.Native.Nat.{_-_, _*_, _/_, _≤_}
 use Rattle.columns.proofs.cells.is_scattered.Statement.{statement}
 use Rattle.columns.proofs.cells.is_scattered.Tie as tie
-use Rattle.columns.proofs.cells.is_scattered.Reads as reads
-use Rattle.columns.proofs.cells.is_scattered.Lts as lts
-use Rattle.columns.proofs.cells.is_far.Reads as is-far-reads
 
 abbrev Inv-loop : tie.InvT-loop
 Inv-loop piece step far₀ i₀ far i = (i ≤ 64) × (far ≤ i)

@@ -1,18 +1,14 @@
 -- `columns::finishing::all_within` meets its contract: the variables passed in each quarter are within, and the four quarters are all variables. A test that fails claims nothing.
 -- Assumes nothing.
 use borrow.Author.Needs.{needs}
-use mathlib.Core.Path.{_≡_, refl, sym}
+use mathlib.Core.Path.{_≡_, sym}
 use native.Mathlib.Omega.{arith}
 use Prim.Native.Nat.{_-_, _*_, _/_, _≤_}
-use lib.ListN.{length}
 use Rattle.base.specs.Pick.{true-not-false}
 use Rattle.base.specs.Quarters.{Quarters, quarters-none, quarters-turn, quarters-all}
 use Rattle.columns.specs.Quick.{Within, within-fine}
 use Rattle.columns.proofs.finishing.all_within.Statement.{statement}
 use Rattle.columns.proofs.finishing.all_within.Tie as tie
-use Rattle.columns.proofs.finishing.all_within.Reads as reads
-use Rattle.columns.proofs.finishing.all_within.Lts as lts
-use Rattle.columns.proofs.finishing.four_within.Reads as four-within-reads
 
 abbrev Inv-loop : tie.InvT-loop
 Inv-loop variables cells scratch many step turns v₀ v = (v ≤ turns) × Quarters (Within cells scratch) step v

@@ -5,9 +5,6 @@ use Rattle.base.specs.Pick.{true-not-false}
 use borrow.Author.Needs.{needs}
 use Rattle.columns.proofs.finishing.four_within.Statement.{statement}
 use Rattle.columns.proofs.finishing.four_within.Tie as tie
-use Rattle.columns.proofs.finishing.four_within.Reads as reads
-use Rattle.columns.proofs.finishing.four_within.Lts as lts
-use Rattle.columns.proofs.finishing.is_within.Reads as is-within-reads
 
 is-within-requires : tie.Need-is-within-requires
 is-within-requires c κs = search needs

@@ -6,8 +6,6 @@ use Rattle.base.specs.Pick.{true-not-false}
 use borrow.Author.Needs.{needs}
 use Rattle.columns.proofs.finishing.is_within.Statement.{statement}
 use Rattle.columns.proofs.finishing.is_within.Tie as tie
-use Rattle.columns.proofs.finishing.is_within.Reads as reads
-use Rattle.columns.proofs.finishing.is_within.Lts as lts
 
 mul-at : tie.Need-mul-at
 mul-at c = search needs

@@ -1,7 +1,7 @@
 -- `columns::records::all_below` meets its contract: the words passed in each quarter are below p, and the four quarters are all words.
 -- Assumes nothing.
 use borrow.Author.Needs.{needs}
-use mathlib.Core.Path.{_≡_, refl, sym}
+use mathlib.Core.Path.{_≡_, sym}
 use native.Mathlib.Omega.{arith}
 use Prim.Native.Nat.{_-_, _*_, _/_, _≤_}
 use lib.ListN.{length}
@@ -10,9 +10,6 @@ use Rattle.field.specs.Field.{p}
 use Rattle.pieces.specs.RecordLaws.{Below, below-all}
 use Rattle.columns.proofs.records.all_below.Statement.{statement}
 use Rattle.columns.proofs.records.all_below.Tie as tie
-use Rattle.columns.proofs.records.all_below.Reads as reads
-use Rattle.columns.proofs.records.all_below.Lts as lts
-use Rattle.columns.proofs.records.four_below.Reads as four-below-reads
 
 abbrev Inv-loop : tie.InvT-loop
 Inv-loop words step turns i₀ i = (i ≤ turns) × Quarters (Below p words) step i

@@ -11,8 +11,6 @@ use Rattle.pieces.specs.RecordLaws.{below-not}
 use borrow.Author.Needs.{needs}
 use Rattle.columns.proofs.records.four_below.Statement.{statement}
 use Rattle.columns.proofs.records.four_below.Tie as tie
-use Rattle.columns.proofs.records.four_below.Reads as reads
-use Rattle.columns.proofs.records.four_below.Lts as lts
 
 mul-if1 : tie.Need-mul-if1
 mul-if1 c = search needs

@@ -8,9 +8,6 @@ use Rattle.columns.proofs.Parts.{part-below}
 use borrow.Author.Needs.{needs}
 use Rattle.columns.proofs.rows.constants_below.Statement.{statement}
 use Rattle.columns.proofs.rows.constants_below.Tie as tie
-use Rattle.columns.proofs.rows.constants_below.Reads as reads
-use Rattle.columns.proofs.rows.constants_below.Lts as lts
-use Rattle.columns.proofs.records.all_below.Reads as all-below-reads
 
 returns : tie.Need-returns
 returns c =

@@ -8,10 +8,6 @@ use Rattle.columns.proofs.Parts.{below-part}
 use borrow.Author.Needs.{needs}
 use Rattle.columns.proofs.rows.known_at.Statement.{statement}
 use Rattle.columns.proofs.rows.known_at.Tie as tie
-use Rattle.columns.proofs.rows.known_at.Reads as reads
-use Rattle.columns.proofs.rows.known_at.Lts as lts
-use Rattle.columns.proofs.records.all_below.Reads as all-below-reads
-use Rattle.columns.proofs.rows.block_end.Reads as block-end-reads
 
 returns : tie.Need-returns
 returns c = search needs
