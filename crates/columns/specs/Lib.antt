@@ -2,6 +2,7 @@
 pub mod Digits
 pub mod Lines
 pub mod Placed
+pub mod Passed
 pub mod Stacked
 pub mod Quick
 pub mod TreeLaws

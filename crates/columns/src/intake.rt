@@ -16,7 +16,7 @@ use crate::finishing::write_firsts;
 use crate::gates::gate_rows;
 use crate::opening::clear;
 use crate::records::write_words;
-use crate::rows::test_rows;
+use crate::row_tests::test_rows;
 use crate::rows::write_rows;
 use crate::s_words::s_words_fault;
 use crate::tables::MOST_TABLES;

@@ -5,6 +5,7 @@ mod gates;
 pub mod intake;
 mod opening;
 mod records;
+mod row_tests;
 mod rows;
 mod s_words;
 pub mod sections;

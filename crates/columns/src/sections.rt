@@ -17,7 +17,7 @@ use crate::gates::gate_rows;
 use crate::intake::Intake;
 use crate::intake::OPEN;
 use crate::intake::room_number;
-use crate::rows::test_rows;
+use crate::row_tests::test_rows;
 use crate::s_words::s_words_fault;
 use crate::tables::tables_fault;
 use tree::plan::Plan;

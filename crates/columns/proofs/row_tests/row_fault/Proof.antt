@@ -1,18 +1,17 @@
--- `columns::rows::row_fault` meets its contract: one equation of the number for each way out.
+-- `columns::row_tests::row_fault` meets its contract: one equation of the number for each way out.
 -- Assumes nothing.
 use borrow.Author.Needs.{needs}
-use mathlib.Core.Path.{_≡_, refl, sym, ap, _∙_}
+use mathlib.Core.Path.{_≡_, sym, ap, _∙_}
 use native.Mathlib.Omega.{arith}
-use Prim.Native.Nat.{ℕ, suc, _+_, _-_, _*_, _<_, _≤_}
-use lib.ListN.{length, getD, take, drop}
-use mathlib.Core.List.{List}
+use Prim.Native.Nat.{ℕ, _+_, _-_, _<_, _≤_}
+use lib.ListN.{getD, take, drop}
 use Rattle.field.specs.Field.{p}
 use Rattle.pieces.specs.Records.{whole, rowSize, front, allBelow}
 use Rattle.pieces.specs.Rows.{rowFault}
 use Rattle.pieces.specs.RecordLaws.{front-short, front-cut, front-whole}
 use Rattle.pieces.specs.FaultLaws.{row-cut, row-large, row-past, row-good, front-unknown, front-long}
-use Rattle.columns.proofs.rows.row_fault.Statement.{statement}
-use Rattle.columns.proofs.rows.row_fault.Tie as tie
+use Rattle.columns.proofs.row_tests.row_fault.Statement.{statement}
+use Rattle.columns.proofs.row_tests.row_fault.Tie as tie
 
 returns : tie.Need-returns
 returns c =
@@ -52,49 +51,58 @@ returns-4 c =
 add-end : tie.Need-add-end
 add-end c = search needs
 
-constants-below-requires : tie.Need-constants-below-requires
-constants-below-requires c κs = search needs
+sub-all-below : tie.Need-sub-all-below
+sub-all-below c = search needs
+
+part-all-below-start : tie.Need-part-all-below-start
+part-all-below-start c = search needs
+
+part-all-below-end : tie.Need-part-all-below-end
+part-all-below-end c = search needs
+
+all-below-requires : tie.Need-all-below-requires
+all-below-requires c κs = search needs
 
 -- a record that is whole: its constants are what was tested
 read : (c : tie.Else4) → front rowSize (c .before .before .before .before .before .before .before .before .args .words .now)
     ≡ whole (getD (c .before .before .before .before .before .before .before .before .args .words .now) 0 0) (getD (c .before .before .before .before .before .before .before .before .args .words .now) 1 0) (take (getD (c .before .before .before .before .before .before .before .before .args .words .now) 1 0) (drop 2 (c .before .before .before .before .before .before .before .before .args .words .now)))
 read c = front-whole rowSize (c .before .before .before .before .before .before .before .before .args .words .now) (c .before .before .before .before .before .before .if1 .left) (c .if4 .left)
 
-below : (c : tie.After-constants-below) → c .constants-below .result ≡ allBelow p (take (getD (c .before .before .before .before .before .before .before .before .before .args .words .now) 1 0) (drop 2 (c .before .before .before .before .before .before .before .before .before .args .words .now)))
+below : (c : tie.After-all-below) → c .all-below .result ≡ allBelow p (take (getD (c .before .before .before .before .before .before .before .before .before .before .args .words .now) 1 0) (drop 2 (c .before .before .before .before .before .before .before .before .before .before .args .words .now)))
 below c =
-    let n = getD (c .before .before .before .before .before .before .before .before .before .args .words .now) 1 0 in
+    let n = getD (c .before .before .before .before .before .before .before .before .before .before .args .words .now) 1 0 in
     let q : 2 + n - 2 ≡ n = omega arith in
-    c .constants-below .ensures ∙ ap (λ (k : ℕ). allBelow p (take k (drop 2 (c .before .before .before .before .before .before .before .before .before .args .words .now)))) q
+    c .all-below .ensures ∙ ap (λ (k : ℕ). allBelow p (take k (drop 2 (c .before .before .before .before .before .before .before .before .before .before .args .words .now)))) q
 
 returns-5 : tie.Need-returns-5
 returns-5 c =
-    let a = c .before .before .before .before .before .before .before .before .before .before .before .args in
+    let a = c .before .before .before .before .before .before .before .before .before .before .before .before .args in
     let g = getD (a .words .now) 0 0 in
     let n = getD (a .words .now) 1 0 in
     let cs = take n (drop 2 (a .words .now)) in
-    let known : g < a .many = c .before .before .before .before .before .before .before .if2 .left in
-    let few : n ≤ getD (a .own .now) g 0 = c .before .before .before .before .if3 .left in
-    sym (ap (rowFault (a .many) (λ (g : ℕ). getD (a .own .now) g 0) (a .trace) (a .row)) (read (c .before .before .before)) ∙ row-past (a .many) (λ (g : ℕ). getD (a .own .now) g 0) (a .trace) (a .row) g n cs known few (sym (below (c .before .before)) ∙ c .before .if5 .taken) (omega (arith, c .if6 .taken)))
+    let known : g < a .many = c .before .before .before .before .before .before .before .before .if2 .left in
+    let few : n ≤ getD (a .own .now) g 0 = c .before .before .before .before .before .if3 .left in
+    sym (ap (rowFault (a .many) (λ (g : ℕ). getD (a .own .now) g 0) (a .trace) (a .row)) (read (c .before .before .before .before)) ∙ row-past (a .many) (λ (g : ℕ). getD (a .own .now) g 0) (a .trace) (a .row) g n cs known few (sym (below (c .before .before)) ∙ c .before .if5 .taken) (omega (arith, c .if6 .taken)))
 
 returns-6 : tie.Need-returns-6
 returns-6 c =
+    let a = c .before .before .before .before .before .before .before .before .before .before .before .before .args in
+    let g = getD (a .words .now) 0 0 in
+    let n = getD (a .words .now) 1 0 in
+    let cs = take n (drop 2 (a .words .now)) in
+    let known : g < a .many = c .before .before .before .before .before .before .before .before .if2 .left in
+    let few : n ≤ getD (a .own .now) g 0 = c .before .before .before .before .before .if3 .left in
+    sym (ap (rowFault (a .many) (λ (g : ℕ). getD (a .own .now) g 0) (a .trace) (a .row)) (read (c .before .before .before .before)) ∙ row-good (a .many) (λ (g : ℕ). getD (a .own .now) g 0) (a .trace) (a .row) g n cs (record { known = known; few = few; small = sym (below (c .before .before)) ∙ c .before .if5 .taken; room = c .if6 .left }))
+
+returns-7 : tie.Need-returns-7
+returns-7 c =
     let a = c .before .before .before .before .before .before .before .before .before .before .before .args in
     let g = getD (a .words .now) 0 0 in
     let n = getD (a .words .now) 1 0 in
     let cs = take n (drop 2 (a .words .now)) in
     let known : g < a .many = c .before .before .before .before .before .before .before .if2 .left in
     let few : n ≤ getD (a .own .now) g 0 = c .before .before .before .before .if3 .left in
-    sym (ap (rowFault (a .many) (λ (g : ℕ). getD (a .own .now) g 0) (a .trace) (a .row)) (read (c .before .before .before)) ∙ row-good (a .many) (λ (g : ℕ). getD (a .own .now) g 0) (a .trace) (a .row) g n cs (record { known = known; few = few; small = sym (below (c .before .before)) ∙ c .before .if5 .taken; room = c .if6 .left }))
-
-returns-7 : tie.Need-returns-7
-returns-7 c =
-    let a = c .before .before .before .before .before .before .before .before .before .before .args in
-    let g = getD (a .words .now) 0 0 in
-    let n = getD (a .words .now) 1 0 in
-    let cs = take n (drop 2 (a .words .now)) in
-    let known : g < a .many = c .before .before .before .before .before .before .if2 .left in
-    let few : n ≤ getD (a .own .now) g 0 = c .before .before .before .if3 .left in
-    sym (ap (rowFault (a .many) (λ (g : ℕ). getD (a .own .now) g 0) (a .trace) (a .row)) (read (c .before .before)) ∙ row-large (a .many) (λ (g : ℕ). getD (a .own .now) g 0) (a .trace) (a .row) g n cs known few (sym (below (c .before)) ∙ c .if5 .left))
+    sym (ap (rowFault (a .many) (λ (g : ℕ). getD (a .own .now) g 0) (a .trace) (a .row)) (read (c .before .before .before)) ∙ row-large (a .many) (λ (g : ℕ). getD (a .own .now) g 0) (a .trace) (a .row) g n cs known few (sym (below (c .before)) ∙ c .if5 .left))
 
 pub row-fault-spec : {M : Type 1} → statement M
 row-fault-spec =
@@ -110,7 +118,10 @@ row-fault-spec =
     sub-if4
     returns-4
     add-end
-    constants-below-requires
+    sub-all-below
+    part-all-below-start
+    part-all-below-end
+    all-below-requires
     returns-5
     returns-6
     returns-7)
