@@ -1,84 +1,94 @@
 -- The loops over the records of a rows piece: the records that are left, from the present row on, give what the whole piece gives. Assumes nothing.
 use mathlib.Core.Path.{_≡_, refl, sym, ap, _∙_}
+use mathlib.Core.Logic.{_≢_}
 use mathlib.Core.List.{List, [], _∷_}
-use Prim.Native.Nat.{ℕ, _+_, _-_, _≤_, _<_}
+use Prim.Native.Nat.{ℕ, suc, _+_, _-_, _≤_, _<_}
+use native.Mathlib.Numerals.{add-one}
 use native.Mathlib.Omega.{arith}
-use lib.ListN.{length, getD, set, take, drop}
-use Rattle.pieces.specs.Records.{Read, whole, rowSize, rowsOf}
-use Rattle.pieces.specs.Rows.{rowsFault, marked}
-use Rattle.pieces.specs.RecordLaws.{Rest, rest-begin, rest-done, rest-whole}
-use Rattle.pieces.specs.FaultLaws.{rows-own-same}
+use lib.ListN.{length, getD, set, take, drop, length-drop}
+use Rattle.pieces.specs.Records.{Read, whole, rowSize, front, rowsOf, firstFault}
+use Rattle.pieces.specs.Rows.{rowFault, rowsFault, marked}
+use Rattle.pieces.specs.RecordLaws.{Rest, fault-here, fault-later, read-fuel, rest-whole, rest-done, rest-front}
+use Rattle.pieces.specs.FaultLaws.{RowFine, row-good, rows-own-same}
 use Rattle.pieces.specs.LineLaws.{marks-turn, marks-done}
 use Rattle.selector.specs.Gates.{constantsOf}
 use Rattle.tree.specs.Plan.{gatesGiven, planExtra}
 use Rattle.tree.specs.declared.plan.Plan.{Plan}
+use Rattle.columns.specs.Passed.{Passed}
 use Rattle.columns.specs.Placed.{GatesOf}
 use Rattle.columns.specs.declared.rows.GateRows.{GateRows}
 
-module _ (count : ℕ) (piece : List ℕ) where
-  -- the records that are left
-  pub record Counting (row i : ℕ) : Type 0 where
-    pub within : i ≤ length piece
-    pub left : List Read
-    pub rest : Rest rowSize piece i left
-    pub counted : row + length left ≡ count + length (rowsOf piece)
+-- the records from place i on
+left : (piece : List ℕ) (i : ℕ) → Rest rowSize piece i (rowsOf (drop i piece))
+unfolding rowsOf
+left piece i = record { turns = length (drop i piece); enough = omega (arith, length-drop i piece); are = refl }
 
-  pub counting-begin : Counting count 0
-  unfolding rowsOf
-  counting-begin = record { within = omega arith; left = rowsOf piece; rest = rest-begin rowSize piece; counted = refl }
+-- the one at the front, which is whole, and those after it
+left-split : (piece : List ℕ) (i : ℕ) → i + 1 < length piece → getD piece (i + 1) 0 ≤ length piece - (i + 2)
+    → rowsOf (drop i piece) ≡ whole (getD piece i 0) (getD piece (i + 1) 0) (take (getD piece (i + 1) 0) (drop (i + 2) piece)) ∷ rowsOf (drop (i + 2 + getD piece (i + 1) 0) piece)
+unfolding rowsOf
+left-split piece i two fits =
+    let next = rest-whole rowSize piece i (rowsOf (drop i piece)) (left piece i) two fits in
+    let r = next .rest in
+    let k = i + 2 + getD piece (i + 1) 0 in
+    next .split ∙ ap (λ (l : List Read). whole (getD piece i 0) (getD piece (i + 1) 0) (take (getD piece (i + 1) 0) (drop (i + 2) piece)) ∷ l)
+    (r .are ∙ read-fuel rowSize (r .turns) (length (drop k piece)) (drop k piece) (omega (arith, r .enough, length-drop k piece)) (omega arith))
 
-  module _ (row i : ℕ) (w : Counting row i) where
-    module _ (two : i + 1 < length piece) (fits : getD piece (i + 1) 0 ≤ length piece - (i + 2)) where
-      abbrev g : ℕ
-      g = getD piece i 0
+-- ---- a walk that meets nothing wrong
+module _ (many : ℕ) (own : ℕ → ℕ) (trace : ℕ) (piece : List ℕ) where
+  pub passed-none : (used : List ℕ) (row i : ℕ) → i ≤ length piece → row ≤ trace → Passed many own trace piece used row i used row i
+  passed-none used row i within low = record { within = within; low = low; fault = refl; counted = refl; marks = refl }
 
-      abbrev k : ℕ
-      k = getD piece (i + 1) 0
+  -- two walks, one after the other
+  pub passed-then : (used₀ : List ℕ) (row₀ i₀ : ℕ) (used₁ : List ℕ) (row₁ i₁ : ℕ) (used : List ℕ) (row i : ℕ)
+      → Passed many own trace piece used₀ row₀ i₀ used₁ row₁ i₁ → Passed many own trace piece used₁ row₁ i₁ used row i → Passed many own trace piece used₀ row₀ i₀ used row i
+  passed-then used₀ row₀ i₀ used₁ row₁ i₁ used row i a b =
+      record { within = b .within; low = b .low; fault = a .fault ∙ b .fault; counted = a .counted ∙ b .counted; marks = a .marks ∙ b .marks }
 
-      abbrev cs : List ℕ
-      cs = take k (drop (i + 2) piece)
+  module _ (used₀ : List ℕ) (row₀ i₀ : ℕ) (used : List ℕ) (row i : ℕ) (w : Passed many own trace piece used₀ row₀ i₀ used row i) where
+    abbrev g : ℕ
+    g = getD piece i 0
 
-      pub counting-next : Counting (row + 1) (i + 2 + k)
-      counting-next =
-          let n = rest-whole rowSize piece i (w .left) (w .rest) two fits in
-          record {
-            within = omega arith;
-            left = n .later;
-            rest = n .rest;
-            counted = omega (arith, w .counted, ap length (n .split));
-          }
+    abbrev n : ℕ
+    n = getD piece (i + 1) 0
 
-      -- the record at the front and those after it
-      pub counting-split : w .left ≡ whole g k cs ∷ counting-next .left
-      unfolding counting-next
-      counting-split = rest-whole rowSize piece i (w .left) (w .rest) two fits .split
+    abbrev cs : List ℕ
+    cs = take n (drop (i + 2) piece)
 
-    pub counting-none : length piece ≤ i → w .left ≡ []
-    counting-none h = rest-done rowSize piece i (w .left) (w .rest) h
-
-    pub counting-count : length piece ≤ i → row ≡ count + length (rowsOf piece)
-    counting-count h = omega (arith, w .counted, ap length (counting-none h))
-
--- ---- marking the gates
-module _ (count : ℕ) (piece used₀ : List ℕ) where
-  pub record Marking (used : List ℕ) (row i : ℕ) : Type 0 where
-    pub at : Counting count piece row i
-    pub marks : marked used₀ (rowsOf piece) ≡ marked used (at .left)
-
-  pub marking-begin : Marking used₀ count 0
-  unfolding counting-begin rowsOf
-  marking-begin = record { at = counting-begin count piece; marks = refl }
-
-  module _ (used : List ℕ) (row i : ℕ) (w : Marking used row i) where
-    pub marking-next : (two : i + 1 < length piece) (fits : getD piece (i + 1) 0 ≤ length piece - (i + 2)) → Marking (set used (getD piece i 0) 1) (row + 1) (i + 2 + getD piece (i + 1) 0)
-    marking-next two fits =
+    -- one record further
+    pub passed-next : i + 1 < length piece → n ≤ length piece - (i + 2) → RowFine many own trace row g n cs → Passed many own trace piece used₀ row₀ i₀ (set used g 1) (row + 1) (i + 2 + n)
+    passed-next two fits fine =
+        let later = rowsOf (drop (i + 2 + n) piece) in
+        let split = left-split piece i two fits in
         record {
-          at = counting-next count piece row i (w .at) two fits;
-          marks = w .marks ∙ ap (marked used) (counting-split count piece row i (w .at) two fits) ∙ marks-turn used (getD piece i 0) (getD piece (i + 1) 0) _ (counting-next count piece row i (w .at) two fits .left);
+          within = omega arith;
+          low = omega (arith, fine .room);
+          fault = w .fault ∙ ap (rowsFault many own trace row) split ∙ rw (add-one row) (fault-later (rowFault many own trace) (λ r _. suc r) row (whole g n cs) later (row-good many own trace row g n cs fine));
+          counted = omega (arith, w .counted, ap length split);
+          marks = w .marks ∙ ap (marked used) split ∙ marks-turn used g n cs later;
         }
 
-    pub marking-marks : length piece ≤ i → used ≡ marked used₀ (rowsOf piece)
-    marking-marks h = sym (w .marks ∙ ap (marked used) (counting-none count piece row i (w .at) h) ∙ marks-done used)
+    -- the record at the front has a fault: it is the first one
+    pub passed-found : i < length piece → rowFault many own trace row (front rowSize (drop i piece)) ≢ 0
+        → rowsFault many own trace row₀ (rowsOf (drop i₀ piece)) ≡ rowFault many own trace row (front rowSize (drop i piece))
+    passed-found h d =
+        let f = rest-front rowSize piece i (rowsOf (drop i piece)) (left piece i) h in
+        w .fault ∙ ap (rowsFault many own trace row) (f .1) ∙ fault-here (rowFault many own trace) (λ r _. suc r) row (front rowSize (drop i piece)) (f .0) d
+
+    -- nothing is left
+    module _ (h : length piece ≤ i) where
+      none : rowsOf (drop i piece) ≡ []
+      none = rest-done rowSize piece i (rowsOf (drop i piece)) (left piece i) h
+
+      pub passed-fine : rowsFault many own trace row₀ (rowsOf (drop i₀ piece)) ≡ 0
+      unfolding firstFault
+      passed-fine = w .fault ∙ ap (rowsFault many own trace row) none
+
+      pub passed-count : row ≡ row₀ + length (rowsOf (drop i₀ piece))
+      passed-count = omega (arith, w .counted, ap length none)
+
+      pub passed-marks : used ≡ marked used₀ (rowsOf (drop i₀ piece))
+      passed-marks = sym (w .marks ∙ ap (marked used) none ∙ marks-done used)
 
 -- ---- the gates' constants are the plan's, so that the test of rows is the plan's
 pub gates-fault : (q : Plan) (r : GateRows) → GatesOf q r → (N count : ℕ) (ts : List Read)

@@ -11,8 +11,9 @@ use lib.ListN.{length, getD, take, drop}
 use Rattle.field.specs.Field.{p}
 use Rattle.pieces.specs.Records.{allBelow}
 use Rattle.pieces.specs.RecordLaws.{Below}
-use Rattle.columns.specs.Passed.{Passed, passed-none, passed-then}
+use Rattle.columns.specs.Passed.{Passed}
 use Rattle.columns.proofs.Parts.{part-is, below-part}
+use Rattle.columns.proofs.RowLoop.{passed-none, passed-then}
 use Rattle.columns.proofs.row_tests.quick_rows.Statement.{statement}
 use Rattle.columns.proofs.row_tests.quick_rows.Tie as tie
 

@@ -9,8 +9,9 @@ use lib.ListN.{length, getD, take, drop}
 use Rattle.field.specs.Field.{p}
 use Rattle.pieces.specs.Records.{allBelow}
 use Rattle.pieces.specs.RecordLaws.{Below}
-use Rattle.columns.specs.Passed.{Passed, passed-none, passed-next}
+use Rattle.columns.specs.Passed.{Passed}
 use Rattle.columns.proofs.Parts.{part-below}
+use Rattle.columns.proofs.RowLoop.{passed-none, passed-next}
 use Rattle.columns.proofs.row_tests.walk_known.Statement.{statement}
 use Rattle.columns.proofs.row_tests.walk_known.Tie as tie
 
@@ -97,7 +98,7 @@ loop-again c =
     let far : l .i + 2 ≤ a .known = c .before .before .before .before .before .before .before .loop-test .taken in
     let fits : getD (a .piece .now) (l .i + 1) 0 ≤ a .known - l .i - 2 = c .before .if3 .left in
     let small = constants (a .piece .now) (a .known) (l .i) (omega (arith, c .before .before .before .before .before .before .before .before .before .pre .0)) (c .before .before .before .before .before .before .before .before .before .pre .1) far fits in
-    passed-next (a .many) (λ (g : ℕ). getD (a .own .now) g 0) (a .trace) (a .piece .now) (l .row) (l .i) (omega (arith, c .before .before .before .before .before .before .before .before .before .pre .0)) (omega (arith, c .before .before .before .before .before .before .before .before .before .pre .0)) (a .used .now) (a .from .rows) (a .from .next) (l .used) (l .inv)
+    passed-next (a .many) (λ (g : ℕ). getD (a .own .now) g 0) (a .trace) (a .piece .now) (a .used .now) (a .from .rows) (a .from .next) (l .used) (l .row) (l .i) (l .inv) (omega (arith, c .before .before .before .before .before .before .before .before .before .pre .0)) (omega (arith, c .before .before .before .before .before .before .before .before .before .pre .0))
     (record { known = c .before .before .before .before .before .if1 .left; few = c .before .before .if2 .left; small = small; room = omega (arith, c .if4 .left, l .inv .low) })
 
 returns-5 : tie.Need-returns-5 Inv-loop μ-loop
