@@ -86,34 +86,34 @@ mul-g : tie.Need-mul-g Inv-loop μ-loop
 mul-g c = omega (arith, good c .two)
 
 shared-slice-read-g : tie.Need-shared-slice-read-g Inv-loop μ-loop
-shared-slice-read-g c = omega (arith, good (c .before), good (c .before) .fine)
+shared-slice-read-g c = omega (arith, good (c .before))
 
 mul-used : tie.Need-mul-used Inv-loop μ-loop
-mul-used c = omega (arith, good (c .before), good (c .before) .fine, c .before .before .before .before .before .before .before .pre .0)
+mul-used c = omega (arith, good (c .before) .fine, c .before .before .before .before .before .before .before .pre .0)
 
 element-write-used : tie.Need-element-write-used Inv-loop μ-loop
-element-write-used c = omega (arith, good (c .before), good (c .before) .fine, c .before .before .before .before .before .before .before .pre .0)
+element-write-used c = omega (arith, good (c .before) .fine, c .before .before .before .before .before .before .before .pre .0)
 
 add-row : tie.Need-add-row Inv-loop μ-loop
-add-row c = omega (arith, good (c .before), good (c .before) .fine, c .before .before .before .before .before .before .before .pre .2)
+add-row c = omega (arith, good (c .before) .fine, c .before .before .before .before .before .before .before .pre .2)
 
 add-i : tie.Need-add-i Inv-loop μ-loop
-add-i c = omega (arith, good (c .before), good (c .before) .fine)
+add-i c = omega (arith, good (c .before))
 
 add-i-2 : tie.Need-add-i-2 Inv-loop μ-loop
-add-i-2 c = omega (arith, good (c .before), good (c .before) .fine)
+add-i-2 c = omega (arith, good (c .before))
 
 mul-i : tie.Need-mul-i Inv-loop μ-loop
-mul-i c = omega (arith, good (c .before), good (c .before) .fine)
+mul-i c = omega (arith, good (c .before))
 
 shared-slice-read-i : tie.Need-shared-slice-read-i Inv-loop μ-loop
-shared-slice-read-i c = omega (arith, good (c .before .before), good (c .before .before) .fine)
+shared-slice-read-i c = omega (arith, good (c .before .before))
 
 add-i-3 : tie.Need-add-i-3 Inv-loop μ-loop
-add-i-3 c = omega (arith, good (c .before .before), good (c .before .before) .fine)
+add-i-3 c = omega (arith, good (c .before .before))
 
 loop-less : tie.Need-loop-less Inv-loop μ-loop
-loop-less c = omega (arith, good (c .before .before), good (c .before .before) .fine)
+loop-less c = omega (arith, good (c .before .before))
 
 loop-again : tie.Need-loop-again Inv-loop μ-loop
 loop-again c =
