@@ -1,38 +1,48 @@
 -- A path as the tree layer hands it out, bits and a length, and as the columns write it, digit by digit.
 --
--- Main definitions: `Spelled`, `Left`. Main statements: `left-begin`, `left-turn`, for the loop that writes the digits.
-use mathlib.Core.Path.{_≡_, ap, _∙_}
-use mathlib.Core.List.{List, _∷_}
-use Prim.Native.Nat.{ℕ, _+_, _*_, _/_, _%_, _<_}
+-- Main definitions: `digits`, `Spelled`. Main statements: `spelled-digits`, and `digits-many`, `digits-turn` for the loop that writes the digits.
+use mathlib.Core.Path.{_≡_, refl, ap, _∙_}
+use mathlib.Core.List.{List, [], _∷_}
+use Prim.Native.Nat.{ℕ, zero, suc, _+_, _-_, _*_, _/_, _%_, _<_}
 use native.Mathlib.Omega.{arith}
-use lib.ListN.{length, getD, drop}
-use Rattle.base.specs.Drops.{drop-one}
+use lib.ListN.{length}
 use Rattle.pieces.specs.RecordLaws.{Each}
 use Rattle.selector.specs.Paths.{bitsOf}
 
+-- the first n digits of a word, the least first: the step from the root is bit 0
+unfoldable pub digits : ℕ → ℕ → List ℕ
+digits zero bits = []
+digits (suc n) bits = bits % 2 ∷ digits n (bits / 2)
+
+example : digits 4 6 ≡ 0 ∷ 1 ∷ 1 ∷ 0 ∷ []
+unfolding digits
+example = refl
+
 -- every digit is 0 or 1, and the word and the number are the path's
 pub record Spelled (path : List ℕ) (bits steps : ℕ) : Type 0 where
-  pub digits : Each (λ (d : ℕ). d < 2) path
+  pub digits-are : Each (λ (d : ℕ). d < 2) path
   pub bits-are : bits ≡ bitsOf path
   pub steps-are : steps ≡ length path
 
--- what is left of a path: its digits from i on are the bits that are left
-pub record Left (path : List ℕ) (rest i : ℕ) : Type 0 where
-  pub bits-left : rest ≡ bitsOf (drop i path)
-  pub digits-left : Each (λ (d : ℕ). d < 2) (drop i path)
+path-digits : (path : List ℕ) → Each (λ (d : ℕ). d < 2) path → digits (length path) (bitsOf path) ≡ path
+unfolding digits bitsOf
+path-digits [] e = refl
+path-digits (d ∷ ds) e =
+    let b = bitsOf ds in
+    let first : (b * 2 + d) % 2 ≡ d = omega (arith, e .0) in
+    let rest : (b * 2 + d) / 2 ≡ b = omega (arith, e .0) in
+    rw (first, rest, path-digits ds (e .1))
 
-pub left-begin : (path : List ℕ) (bits steps : ℕ) → Spelled path bits steps → Left path bits 0
-left-begin path bits steps s = record { bits-left = s .bits-are; digits-left = s .digits }
+-- a spelled path is its digits
+pub spelled-digits : (path : List ℕ) (bits steps : ℕ) → Spelled path bits steps → digits steps bits ≡ path
+spelled-digits path bits steps s = rw (s .bits-are, s .steps-are) (path-digits path (s .digits-are))
 
-left-step : (path : List ℕ) (rest i d : ℕ) (ds : List ℕ) → drop i path ≡ d ∷ ds → Left path rest i → (rest % 2 ≡ d) × (rest / 2 ≡ bitsOf ds) × Each (λ (d : ℕ). d < 2) ds
-unfolding bitsOf
-left-step path rest i d ds e l =
-    let b : rest ≡ bitsOf ds * 2 + d = l .bits-left ∙ ap bitsOf e in
-    let g : (d < 2) × Each (λ (d : ℕ). d < 2) ds = rw e at (l .digits-left) in
-    (omega (arith, g .0), omega (arith, g .0), g .1)
+pub digits-many : (n bits : ℕ) → length (digits n bits) ≡ n
+unfolding digits
+digits-many zero bits = refl
+digits-many (suc n) bits = ap suc (digits-many n (bits / 2))
 
 -- one digit is taken off
-pub left-turn : (path : List ℕ) (rest i : ℕ) → i < length path → Left path rest i → (rest % 2 ≡ getD path i 0) × Left path (rest / 2) (i + 1)
-left-turn path rest i h l =
-    let s = left-step path rest i (getD path i 0) (drop (i + 1) path) (drop-one path i h) l in
-    (s .0, record { bits-left = s .1; digits-left = s .2 })
+pub digits-turn : (n i rest : ℕ) → i < n → digits (n - i) rest ≡ rest % 2 ∷ digits (n - (i + 1)) (rest / 2)
+unfolding digits
+digits-turn n i rest h = let e : n - i ≡ suc (n - (i + 1)) = omega arith in rw e

@@ -15,7 +15,7 @@ use crate::finishing::scratch_fine;
 use crate::finishing::write_firsts;
 use crate::gates::gate_rows;
 use crate::opening::clear;
-use crate::records::write_words;
+use crate::records::write_many;
 use crate::row_tests::test_rows;
 use crate::rows::write_rows;
 use crate::s_words::s_words_fault;
@@ -255,7 +255,7 @@ impl Intake {
                 return refused(fault, self);
             }
             let at = (plan.constants * plan.trace + self.s_words) as usize;
-            write_words(at, piece, constants);
+            write_many(at, piece, constants);
             self.s_words = self.s_words + piece.len() as u64;
             return Taken {
                 number: 0,

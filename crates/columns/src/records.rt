@@ -9,7 +9,7 @@ ghost use Rattle.base.specs.Quarters.{Fourfold};
 ghost use Rattle.pieces.specs.Records.{allBelow};
 ghost use Rattle.pieces.specs.RecordLaws.{Below};
 ghost use Rattle.pieces.specs.Writing.{put, putLines};
-ghost use Rattle.columns.specs.Digits.{Left};
+ghost use Rattle.columns.specs.Digits.{digits};
 ghost use Rattle.columns.specs.Lines.{strided, cutLines};
 
 // Whether the words at place `at` and one, two and three times `step` behind it are below p.
@@ -60,10 +60,37 @@ pub(crate) fn write_words(at: usize, words: &[u64], buffer: &mut [u64])
     }
 }
 
-// The first digits of a path in the same way, the step from the root first.
+// The lesser of two numbers.
+fn lesser(x: usize, y: usize) -> usize
+    ensures { λ r. ⌜ (r ≤ x) × (r ≤ y) × (0 < x → 0 < y → 0 < r) ⌝ }
+{
+    if x < y {
+        return x;
+    }
+    y
+}
+
+// Many words at consecutive places, by way of a few kilobytes of our own: of two lent slices the
+// compiler doesn't know that they lie apart, and copies 16 bytes at a time; to and from our own words it
+// copies by the widest means that the machine has.
+pub(crate) fn write_many(at: usize, words: &[u64], buffer: &mut [u64])
+    requires { ⌜ at + length (now words) ≤ length (now buffer) ⌝ }
+    ensures { λ _. ⌜ now (buffer .exit) ≡ put 1 (now (buffer .entry)) at (now (words .entry)) ⌝ }
+{
+    let mut own = [0; 2048];
+    let mut i = 0;
+    while i < words.len() {
+        let n = lesser(2048, words.len() - i);
+        write_words(0, &words[i..i + n], &mut own);
+        write_words(at + i, &own[0..n], buffer);
+        i = i + n;
+    }
+}
+
+// The first digits of a word in the same way, the least first: the path's steps from the root on.
 pub(crate) fn write_path(at: usize, bits: u64, many: u64, buffer: &mut [u64])
     requires { ⌜ at + many ≤ length (now buffer) ⌝ }
-    ensures { λ _. ⌜ ((path : List ℕ) → Left path bits 0 → many ≤ length path → now (buffer .exit) ≡ put 1 (now (buffer .entry)) at (take many path)) ⌝ }
+    ensures { λ _. ⌜ now (buffer .exit) ≡ put 1 (now (buffer .entry)) at (digits many bits) ⌝ }
 {
     let mut rest = bits;
     let mut i: u64 = 0;

@@ -95,7 +95,7 @@ returns c =
     let o : (g : ℕ) → g < q .«gate_count» → getD (l .own) g 0 ≡ ownOf q g = λ g h. l .inv .2 .inside g (omega arith) (omega arith) in
     record {
       many-is = refl;
-      spells-paths = record { spells = λ g h. record { digits = w .digits g; bits-are = words g h .bits-are; steps-are = words g h .steps-are } };
+      spells-paths = record { spells = λ g h. record { digits-are = w .digits g; bits-are = words g h .bits-are; steps-are = words g h .steps-are } };
       room = record { fits = λ g h. omega (arith, words g h .steps-are, o g h, w .fits g h) };
       own-is = o;
     }

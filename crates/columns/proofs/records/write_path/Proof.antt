@@ -1,45 +1,25 @@
--- `columns::records::write_path` meets its contract, for whatever path begins with the bits. What is left of the bits are the digits that are left to put.
+-- `columns::records::write_path` meets its contract. What is left of the bits are the digits that are left to put.
 -- Assumes nothing.
 use borrow.Author.Needs.{needs}
-use mathlib.Core.Path.{_≡_, refl, sym, _∙_}
+use mathlib.Core.Path.{_≡_, refl, sym, ap, _∙_}
 use mathlib.Core.List.{List}
 use native.Mathlib.Nat.{add-zero}
 use native.Mathlib.Omega.{arith}
 use Prim.Native.Nat.{ℕ, _+_, _-_, _/_, _%_, _<_, _≤_}
 use Rattle.pieces.specs.Writing.{put}
-use Rattle.pieces.specs.WriteLaws.{put-turn, put-done}
-use lib.ListN.{length, getD, take, drop, set, length-set}
-use lib.Seq.{length-take-le, getD-take}
-use Rattle.columns.specs.Digits.{Left, left-turn}
+use lib.ListN.{length, set, length-set}
+use Rattle.columns.specs.Digits.{digits, digits-turn}
 use Rattle.columns.proofs.records.write_path.Statement.{statement}
 use Rattle.columns.proofs.records.write_path.Tie as tie
 
 abbrev Inv-loop : tie.InvT-loop
-Inv-loop at bits many buffer₀ rest₀ i₀ buffer rest i =
-    (length buffer ≡ length buffer₀)
-    × ((path : List ℕ) → Left path bits 0 → many ≤ length path → Left path rest i × (put 1 buffer₀ at (take many path) ≡ put 1 buffer (at + i) (drop i (take many path))))
+Inv-loop at bits many buffer₀ rest₀ i₀ buffer rest i = (length buffer ≡ length buffer₀) × (put 1 buffer₀ at (digits many bits) ≡ put 1 buffer (at + i) (digits (many - i) rest))
 
 abbrev μ-loop : tie.MeasureT-loop
 μ-loop at bits many buffer₀ rest₀ i₀ buffer rest i = many - i
 
 loop-holds : tie.Need-loop-holds Inv-loop μ-loop
-loop-holds c = (refl, λ path s m. (s, rw add-zero))
-
--- the digit that is written is the path's
-digit : (c : tie.In-loop Inv-loop μ-loop) (path : List ℕ) → Left path (c .before .before .args .bits) 0 → c .before .before .args .many ≤ length path
-    → Left path (c .before .loop .rest / 2) (c .before .loop .i + 1)
-    × (put 1 (c .before .before .args .buffer .now) (c .before .before .args .at) (take (c .before .before .args .many) path)
-    ≡ put 1 (set (c .before .loop .buffer) (c .before .before .args .at + c .before .loop .i) (c .before .loop .rest % 2)) (c .before .before .args .at + (c .before .loop .i + 1)) (drop (c .before .loop .i + 1) (take (c .before .before .args .many) path)))
-digit c path s m =
-    let l = c .before .loop in
-    let a = c .before .before .args in
-    let v = l .inv .1 path s m in
-    let h : l .i < a .many = c .loop-test .taken in
-    let k : l .i < length (take (a .many) path) = omega (arith, h, length-take-le (a .many) path m) in
-    let d = left-turn path (l .rest) (l .i) (omega (arith, h, m)) (v .0) in
-    let e : getD (take (a .many) path) (l .i) 0 ≡ l .rest % 2 = getD-take (a .many) path (l .i) 0 h ∙ sym (d .0) in
-    let z : a .at + l .i + 1 ≡ a .at + (l .i + 1) = omega arith in
-    (d .1, v .1 ∙ rw (e, z) at (put-turn 1 (l .buffer) (a .at + l .i) (take (a .many) path) (l .i) k))
+loop-holds c = let z : c .args .many - 0 ≡ c .args .many = omega arith in (refl, rw (add-zero, z))
 
 add-buffer : tie.Need-add-buffer Inv-loop μ-loop
 add-buffer c = search needs
@@ -56,17 +36,30 @@ add-i c = search needs
 loop-less : tie.Need-loop-less Inv-loop μ-loop
 loop-less c = search needs
 
+-- the next digit is put
+digit-turn : (b : List ℕ) (at i n rest : ℕ) → i < n → put 1 b (at + i) (digits (n - i) rest) ≡ put 1 (set b (at + i) (rest % 2)) (at + (i + 1)) (digits (n - (i + 1)) (rest / 2))
+unfolding put
+digit-turn b at i n rest h = let z : at + i + 1 ≡ at + (i + 1) = omega arith in ap (put 1 b (at + i)) (digits-turn n i rest h) ∙ rw (← z)
+
 loop-again : tie.Need-loop-again Inv-loop μ-loop
-loop-again c = (simp length-set (c .before .loop .inv .0), digit c)
+loop-again c =
+    let l = c .before .loop in
+    let a = c .before .before .args in
+    (simp length-set (l .inv .0), l .inv .1 ∙ digit-turn (l .buffer) (a .at) (l .i) (a .many) (l .rest) (c .loop-test .taken))
 
 same-length : tie.Need-same-length Inv-loop μ-loop
 same-length c = c .before .loop .inv .0
+
+-- no digit is left
+digits-done : (b : List ℕ) (k i n rest : ℕ) → n ≤ i → put 1 b k (digits (n - i) rest) ≡ b
+unfolding put digits
+digits-done b k i n rest h = let e : n - i ≡ 0 = omega arith in rw e
 
 returns : tie.Need-returns Inv-loop μ-loop
 returns c =
     let l = c .before .loop in
     let a = c .before .before .args in
-    λ path s m. sym (l .inv .1 path s m .1 ∙ put-done 1 (l .buffer) (a .at + l .i) (take (a .many) path) (l .i) (omega (arith, length-take-le (a .many) path m)))
+    sym (l .inv .1 ∙ digits-done (l .buffer) (a .at + l .i) (l .i) (a .many) (l .rest) (c .loop-test .left))
 
 pub write-path-spec : {M : Type 1} → statement M
 write-path-spec =

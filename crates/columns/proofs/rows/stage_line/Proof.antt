@@ -1,73 +1,57 @@
--- `columns::rows::stage_line` meets its contract: path, constants and zeros are the three parts of the line.
+-- `columns::rows::stage_line` meets its contract: the constants come over the zeros after the path.
 -- Assumes nothing.
 use borrow.Author.Needs.{needs}
 use mathlib.Core.Path.{_≡_, sym, _∙_}
 use mathlib.Core.List.{List, _++_}
 use native.Mathlib.Omega.{arith}
-use Prim.Native.Nat.{ℕ, _+_, _-_, _*_, _≤_}
-use lib.ListN.{length, take, replicate}
-use lib.Seq.{take-all}
+use Prim.Native.Nat.{ℕ, _+_, _≤_}
+use lib.ListN.{length, getD}
 use Rattle.pieces.specs.Writing.{put, padded}
-use Rattle.pieces.specs.WriteLaws.{put-line}
-use Rattle.columns.specs.Digits.{Spelled, Left, left-begin}
+use Rattle.columns.specs.Digits.{digits, digits-many}
+use Rattle.columns.specs.Lines.{line-over}
 use Rattle.columns.proofs.rows.stage_line.Statement.{statement}
 use Rattle.columns.proofs.rows.stage_line.Tie as tie
 
-write-path-requires : tie.Need-write-path-requires
-write-path-requires c κs = search needs
+stage-blank-requires : tie.Need-stage-blank-requires
+stage-blank-requires c κs =
+    let s = c .before .before .before in
+    ((s .pre .0 .0, s .pre .0 .1, omega (arith, s .pre .0 .2), s .pre .0 .3), s .pre .1)
 
-add-given : tie.Need-add-given
-add-given c = search needs
+mul-write-words : tie.Need-mul-write-words
+mul-write-words c = omega (arith, c .before .before .before .before .pre .0 .1)
+
+element-copy-out-write-words : tie.Need-element-copy-out-write-words
+element-copy-out-write-words c = c .before .before .before .before .pre .0 .1
+
+add-write-words : tie.Need-add-write-words
+add-write-words c = let s = c .before .before .before .before .before in omega (arith, s .pre .0 .0, s .pre .0 .2)
 
 write-words-requires : tie.Need-write-words-requires
-write-words-requires c κs = search needs
+write-words-requires c κs = let s = c .before .before .before .before .before .before in omega (arith, s .pre .0 .0, s .pre .0 .2, c .before .before .stage-blank .ensures .1)
 
-add-filled : tie.Need-add-filled
-add-filled c = search needs
-
-add-write-same : tie.Need-add-write-same
-add-write-same c = search needs
-
-sub-write-same : tie.Need-sub-write-same
-sub-write-same c = search needs
-
-write-same-requires : tie.Need-write-same-requires
-write-same-requires c κs = search needs
-
--- the three parts make up the line
-line-by : (k at : ℕ) (b₀ b₁ b₂ b₃ path words : List ℕ) (bits steps : ℕ) → Spelled path bits steps → steps + length words ≤ k
-    → ((path : List ℕ) → Left path bits 0 → steps ≤ length path → b₁ ≡ put 1 b₀ at (take steps path))
-    → b₂ ≡ put 1 b₁ (at + steps) words → b₃ ≡ put 1 b₂ (at + (steps + length words)) (replicate (k - (steps + length words)) 0)
-    → b₃ ≡ put 1 b₀ at (padded k (path ++ words))
-line-by k at b₀ b₁ b₂ b₃ path words bits steps s h wrote e₂ e₃ =
-    let n : length path ≡ steps = sym (s .steps-are) in
-    let e₁ = wrote path (left-begin path bits steps s) (omega (arith, n)) in
-    let t : take steps path ≡ path = take-all steps path (omega (arith, n)) in
-    let x : at + length path * 1 ≡ at + steps = omega (arith, n) in
-    let y : at + (length path + length words) * 1 ≡ at + (steps + length words) = omega (arith, n) in
-    let z : k - (length path + length words) ≡ k - (steps + length words) = omega (arith, n) in
-    e₃ ∙ rw (e₂, e₁, t) (sym (put-line k 1 b₀ at path words (omega (arith, n)) ∙ rw (x, y, z)))
+-- the constants come over the zeros after the path
+line-by : (k at bits steps : ℕ) (b₀ b₁ b₂ words : List ℕ) → steps + length words ≤ k → b₁ ≡ put 1 b₀ at (padded k (digits steps bits)) → b₂ ≡ put 1 b₁ (at + steps) words
+    → b₂ ≡ put 1 b₀ at (padded k (digits steps bits ++ words))
+line-by k at bits steps b₀ b₁ b₂ words h e₁ e₂ =
+    let n = digits-many steps bits in
+    e₂ ∙ rw e₁ (rw n at (line-over k b₀ at (digits steps bits) words (omega (arith, n))))
 
 returns : tie.Need-returns
 returns c =
     let s = c .before .before .before .before .before .before .before in
     let a = s .args in
-    let same = c .write-same in
-    let words = c .before .before .write-words in
-    let path = c .before .before .before .before .write-path in (
-      λ way q. line-by (a .height) (a .at) (a .stage .now) _ _ _ way (a .words .now) (a .bits) (a .steps) q (s .pre .1) (path .ensures) (words .ensures) (same .ensures),
-      same .kept .1 .1 .1 .0 ∙ words .kept .1 .1 .0 ∙ path .kept .1 .1 .1 .0 ∙ s .pre .2,
+    let blank = c .before .before .before .stage-blank in (
+      line-by (a .height) (a .at) (getD (a .bits .now) (a .gate) 0) (getD (a .steps .now) (a .gate) 0) (a .stage .now) _ _ (a .words .now) (s .pre .0 .2) (blank .ensures .0) (c .write-words .ensures),
+      c .write-words .kept .1 .1 .0 ∙ blank .ensures .1,
     )
 
 pub stage-line-spec : {M : Type 1} → statement M
 stage-line-spec =
     tie.close
     (tie.spec
-    write-path-requires
-    add-given
+    stage-blank-requires
+    mul-write-words
+    element-copy-out-write-words
+    add-write-words
     write-words-requires
-    add-filled
-    add-write-same
-    sub-write-same
-    write-same-requires
     returns)
