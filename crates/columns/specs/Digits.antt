@@ -1,7 +1,7 @@
 -- A path as the tree layer hands it out, bits and a length, and as the columns write it, digit by digit.
 --
 -- Main definitions: `digits`, `Spelled`. Main statements: `spelled-digits`, and `digits-many`, `digits-turn` for the loop that writes the digits.
-use mathlib.Core.Path.{_≡_, refl, ap, _∙_}
+use mathlib.Core.Path.{_≡_, refl, ap}
 use mathlib.Core.List.{List, [], _∷_}
 use Prim.Native.Nat.{ℕ, zero, suc, _+_, _-_, _*_, _/_, _%_, _<_}
 use native.Mathlib.Omega.{arith}

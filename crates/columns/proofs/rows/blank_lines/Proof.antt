@@ -1,9 +1,9 @@
 -- `columns::rows::blank_lines` meets its contract. Each turn writes one line after those before it (StageLoop).
 -- Assumes nothing.
 use borrow.Author.Needs.{needs}
-use mathlib.Core.Path.{_≡_, refl, sym, ap, _∙_}
+use mathlib.Core.Path.{_≡_}
 use native.Mathlib.Omega.{arith}
-use Prim.Native.Nat.{ℕ, _+_, _-_, _*_, _≤_}
+use Prim.Native.Nat.{_+_, _-_, _*_, _≤_}
 use lib.ListN.{length}
 use Rattle.columns.specs.Placed.{Blanks}
 use Rattle.columns.proofs.StageLoop.{blanks-none, blanks-next}

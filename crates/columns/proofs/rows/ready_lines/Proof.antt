@@ -2,7 +2,6 @@
 -- Assumes nothing.
 use borrow.Author.Needs.{needs}
 use native.Mathlib.Omega.{arith}
-use Prim.Native.Nat.{_+_, _≤_}
 use Rattle.columns.proofs.StageLoop.{blanks-none}
 use Rattle.columns.proofs.rows.ready_lines.Statement.{statement}
 use Rattle.columns.proofs.rows.ready_lines.Tie as tie

@@ -1,17 +1,16 @@
 -- `columns::rows::stage_blank` meets its contract: the line is copied where it is ready, and spelled where it is not.
 -- Assumes nothing.
 use borrow.Author.Needs.{needs}
-use mathlib.Core.Path.{_≡_, refl, sym, ap, _∙_}
+use mathlib.Core.Path.{sym, ap, _∙_}
 use mathlib.Core.List.{List}
 use native.Mathlib.Nat.{mul-le-mul-left}
 use native.Mathlib.Omega.{arith}
 use Prim.Native.Nat.{ℕ, _+_, _-_, _*_, _<_, _≤_}
-use lib.ListN.{length, getD, take, drop, length-drop}
-use Rattle.pieces.specs.Writing.{put, padded}
+use lib.ListN.{length, drop, length-drop}
+use Rattle.pieces.specs.Writing.{put}
 use Rattle.pieces.specs.WriteLaws.{padded-take}
-use Rattle.columns.specs.Digits.{digits}
 use Rattle.columns.specs.Placed.{Blanks}
-use Rattle.columns.proofs.Parts.{part-is, part-length}
+use Rattle.columns.proofs.Parts.{part-is}
 use Rattle.columns.proofs.rows.stage_blank.Statement.{statement}
 use Rattle.columns.proofs.rows.stage_blank.Tie as tie
 
