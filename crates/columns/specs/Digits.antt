@@ -1,11 +1,12 @@
 -- A path as the tree layer hands it out, bits and a length, and as the columns write it, digit by digit.
 --
--- Main definitions: `digits`, `Spelled`. Main statements: `spelled-digits`, and `digits-many`, `digits-turn` for the loop that writes the digits.
-use mathlib.Core.Path.{_≡_, refl, ap}
+-- Main definitions: `digits`, `Spelled`. Main statements: `spelled-digits`, `digits-many`, and `digits-turn`, `digits-left` for loops that write the digits.
+use mathlib.Core.Path.{_≡_, refl, sym, ap, _∙_}
 use mathlib.Core.List.{List, [], _∷_}
 use Prim.Native.Nat.{ℕ, zero, suc, _+_, _-_, _*_, _/_, _%_, _<_}
 use native.Mathlib.Omega.{arith}
-use lib.ListN.{length}
+use lib.ListN.{length, getD, drop}
+use Rattle.base.specs.Drops.{drop-one}
 use Rattle.pieces.specs.RecordLaws.{Each}
 use Rattle.selector.specs.Paths.{bitsOf}
 
@@ -46,3 +47,9 @@ digits-many (suc n) bits = ap suc (digits-many n (bits / 2))
 pub digits-turn : (n i rest : ℕ) → i < n → digits (n - i) rest ≡ rest % 2 ∷ digits (n - (i + 1)) (rest / 2)
 unfolding digits
 digits-turn n i rest h = let e : n - i ≡ suc (n - (i + 1)) = omega arith in rw e
+
+-- the digits that are left are a path's from i on: so are those after the next one
+pub digits-left : (path : List ℕ) (n i rest : ℕ) → digits (n - i) rest ≡ drop i path → i < n → i < length path → (rest % 2 ≡ getD path i 0) × (digits (n - (i + 1)) (rest / 2) ≡ drop (i + 1) path)
+digits-left path n i rest e h k =
+    let both : rest % 2 ∷ digits (n - (i + 1)) (rest / 2) ≡ getD path i 0 ∷ drop (i + 1) path = sym (digits-turn n i rest h) ∙ e ∙ drop-one path i k in
+    (ap (λ (l : List ℕ). getD l 0 0) both, ap (drop 1) both)

@@ -8,7 +8,7 @@ use Rattle.bytes.specs.Text.{Sink, sink, put, field, fields}
 use Rattle.bytes.specs.TextLaws.{then}
 use Prim.Native.Nat.{ℕ, suc, _+_, _-_, _*_, _/_, _%_, _<_, _≤_}
 use lib.ListN.{length, getD, take, drop}
-use Rattle.columns.specs.Digits.{Spelled, Left, left-begin, left-turn}
+use Rattle.columns.specs.Digits.{digits, Spelled, spelled-digits, digits-left}
 use Rattle.report.specs.Report.{digit, digitsOf}
 use Rattle.report.specs.ReportLaws.{digits-turn, digits-done}
 use Rattle.report.proofs.lines.put_digits.Statement.{statement}
@@ -18,13 +18,16 @@ use Rattle.report.proofs.lines.put_digits.Lts as lts
 use Rattle.report.proofs.lines.put_digit.Reads as put-digit-reads
 
 abbrev Inv-loop : tie.InvT-loop
-Inv-loop bits steps at out₀ rest₀ place₀ i₀ out rest place i = (length out ≡ length out₀) × ((path : List ℕ) → Spelled path bits steps → Left path rest i × (put (sink out₀ at) (digitsOf path) ≡ put (sink out place) (digitsOf (drop i path))))
+Inv-loop bits steps at out₀ rest₀ place₀ i₀ out rest place i = (length out ≡ length out₀) × ((path : List ℕ) → Spelled path bits steps → (digits (steps - i) rest ≡ drop i path) × (put (sink out₀ at) (digitsOf path) ≡ put (sink out place) (digitsOf (drop i path))))
 
 abbrev μ-loop : tie.MeasureT-loop
 μ-loop bits steps at out₀ rest₀ place₀ i₀ out rest place i = steps - i
 
 loop-holds : tie.Need-loop-holds Inv-loop μ-loop
-loop-holds c = (refl, λ path s. (left-begin path _ _ s, refl))
+loop-holds c =
+    let a = c .before .args in
+    let z : a .steps - 0 ≡ a .steps = omega arith in
+    (refl, λ path s. (rw z (spelled-digits path (a .bits) (a .steps) s), refl))
 
 put-digit-requires : tie.Need-put-digit-requires Inv-loop μ-loop
 put-digit-requires c κs = search needs
@@ -43,7 +46,7 @@ loop-again c =
       λ path s.
           let v = l .inv .1 path s in
           let h : l .i < length path = omega (arith, c .before .before .before .before .loop-test .taken, s .steps-are) in
-          let d = left-turn path (l .rest) (l .i) h (v .0) in
+          let d = digits-left path (c .before .before .before .before .before .before .before .args .steps) (l .i) (l .rest) (v .0) (c .before .before .before .before .loop-test .taken) h in
           (d .1, v .1 ∙ digits-turn (sink (l .out) (l .place)) _ path (l .i) h (w .ensures ∙ ap (λ (k : ℕ). put (sink (l .out) (l .place)) (digit k)) (d .0))),
     )
 

@@ -55,7 +55,7 @@ returns c =
     let a = c .before .before .before .before .before .before .before .before .before .before .before .before .before .before .before .before .before .before .before .before .args in
     let e = c .before .before .before .before .before .before .before .before .before .before .before .before .before .before .before .before .before .before .path .ensures ∙ path-good (a .plan) (a .gate) (c .before .before .before .before .before .before .before .before .before .before .before .before .before .before .before .before .before .before .before .before .pre .0) (c .before .before .before .before .before .before .before .before .before .before .before .before .before .before .before .before .before .before .before .before .pre .1) in
     let s : Spelled (planPath (a .plan) (a .gate)) _ _ =
-    record { digits = fine (c .before .before .before .before .before .before .before .before .before .before .before .before .before .before .before .before .before .before .before .before) .digits (a .gate); bits-are = ap (λ (r : Path). r .bits) e; steps-are = ap (λ (r : Path). r .length) e } in
+    record { digits-are = fine (c .before .before .before .before .before .before .before .before .before .before .before .before .before .before .before .before .before .before .before .before) .digits (a .gate); bits-are = ap (λ (r : Path). r .bits) e; steps-are = ap (λ (r : Path). r .length) e } in
     then (sink (a .out .now) (a .at)) _ _ (pathName ++ field (a .gate) ++ stepsField (planPath (a .plan) (a .gate))) (newline)
     (then (sink (a .out .now) (a .at)) _ _ (pathName ++ field (a .gate)) (stepsField (planPath (a .plan) (a .gate)))
     (then (sink (a .out .now) (a .at)) _ _ (pathName) (field (a .gate))
