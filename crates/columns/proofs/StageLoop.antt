@@ -1,4 +1,4 @@
--- The loop that stages rows: the records that are staged are the first lines of the stage, and the rest is what is left. The loop that writes what is staged:
+-- The loop that makes lines ready: the first lines are the gates'. The loop that stages rows: the records that are staged are the first lines of the stage, and the rest is what is left. The loop that writes what is staged:
 -- the records that are left, from the present row on, give what the whole piece gives. Assumes nothing.
 use mathlib.Core.Path.{_≡_, refl, sym, ap, _∙_}
 use mathlib.Core.Logic.{_≢_, _⊎_, ⊎-elim}

@@ -1,4 +1,4 @@
-// What rows and tables have in common: words below p, and lines across columns.
+// What rows, S words and tables have in common: words below p, words in place, lines across columns.
 ghost use mathlib.Core.Path.{_≡_};
 ghost use mathlib.Core.Bool.{true, false};
 ghost use mathlib.Core.List.{List};
@@ -87,7 +87,7 @@ pub(crate) fn write_many(at: usize, words: &[u64], buffer: &mut [u64])
     }
 }
 
-// The first digits of a word in the same way, the least first: the path's steps from the root on.
+// The first digits of a word at consecutive places, the least first: a path's steps from the root on.
 pub(crate) fn write_path(at: usize, bits: u64, many: u64, buffer: &mut [u64])
     requires { ⌜ at + many ≤ length (now buffer) ⌝ }
     ensures { λ _. ⌜ now (buffer .exit) ≡ put 1 (now (buffer .entry)) at (digits many bits) ⌝ }
