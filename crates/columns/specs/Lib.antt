@@ -1,5 +1,6 @@
 -- 01, 'Columns by pieces': what the code's types mean in the definitions of `pieces`.
 pub mod Digits
+pub mod Fours
 pub mod Lines
 pub mod Placed
 pub mod Passed

@@ -2,12 +2,13 @@
 ghost use mathlib.Core.Path.{_≡_};
 ghost use mathlib.Core.Bool.{true};
 ghost use Prim.Native.Nat.{ℕ, _+_, _*_, _^_, _<_, _≤_};
-ghost use lib.ListN.{length, getD};
+ghost use lib.ListN.{drop, length, getD};
 ghost use Rattle.pieces.specs.Setting.{cols};
 ghost use Rattle.pieces.specs.Cells.{placeholder, indexOf, cellFault, cellsFault, placeCell, cellsRun};
 ghost use lib.Dec.{eqb};
 ghost use Rattle.base.specs.Pick.{pick};
 ghost use Rattle.base.specs.Quarters.{Fourfold};
+ghost use Rattle.columns.specs.Fours.{Placeable, placeFour};
 ghost use Rattle.columns.specs.Quick.{Named};
 use cs::Variable;
 
@@ -101,7 +102,7 @@ pub(crate) fn cells_fault(total: u64, vars: u64, count: u64, piece: &[u64]) -> u
 // number, and a seen one exchanges its value with the cell's word.
 fn branch_cell(cell: u64, variable: Variable, copies: &mut [u64], scratch: &mut [u64])
     requires { ⌜ cell < length (now copies) ⌝ }
-    requires { ⌜ (variable .0 < placeholder → 2 * indexOf (variable .0) + 1 < length (now scratch)) ⌝ }
+    requires { ⌜ Placeable (length (now scratch)) (variable .0) ⌝ }
     ensures { λ _. ⌜ cols (now (copies .exit)) (now (scratch .exit)) ≡ placeCell cell (variable .0) (cols (now (copies .entry)) (now (scratch .entry))) ⌝ }
 {
     if variable.is_placeholder() {
@@ -134,7 +135,7 @@ fn by_value(value: u64, unseen: u64, seen: u64) -> u64
 // all written, those too that stay as they are.
 fn choose_cell(cell: u64, variable: Variable, copies: &mut [u64], scratch: &mut [u64])
     requires { ⌜ cell < length (now copies) ⌝ }
-    requires { ⌜ (variable .0 < placeholder → 2 * indexOf (variable .0) + 1 < length (now scratch)) ⌝ }
+    requires { ⌜ Placeable (length (now scratch)) (variable .0) ⌝ }
     ensures { λ _. ⌜ cols (now (copies .exit)) (now (scratch .exit)) ≡ placeCell cell (variable .0) (cols (now (copies .entry)) (now (scratch .entry))) ⌝ }
 {
     if variable.is_placeholder() {
@@ -159,7 +160,7 @@ fn place_cell(
     scratch: &mut [u64],
 )
     requires { ⌜ cell < length (now copies) ⌝ }
-    requires { ⌜ (variable .0 < placeholder → 2 * indexOf (variable .0) + 1 < length (now scratch)) ⌝ }
+    requires { ⌜ Placeable (length (now scratch)) (variable .0) ⌝ }
     ensures { λ _. ⌜ cols (now (copies .exit)) (now (scratch .exit)) ≡ placeCell cell (variable .0) (cols (now (copies .entry)) (now (scratch .entry))) ⌝ }
 {
     if scattered {
@@ -197,14 +198,65 @@ fn is_scattered(piece: &[u64]) -> bool {
     32 < far
 }
 
-// The words of a piece without a fault, in the cells from number `count` on. Where neighbours name
-// neighbouring variables the processor foretells which are seen; where they do not, no branch asks.
-pub(crate) fn place_cells(count: u64, piece: &[u64], copies: &mut [u64], scratch: &mut [u64])
+// Four cell words in four cells one after the other. The words come as numbers: read before the first
+// is placed, they wait for none of its writes, which the processor cannot tell apart from them at once.
+fn place_four(
+    scattered: bool,
+    cell: u64,
+    first: u64,
+    second: u64,
+    third: u64,
+    fourth: u64,
+    copies: &mut [u64],
+    scratch: &mut [u64],
+)
+    requires { ⌜ (cell + 3 < length (now copies)) × Placeable (length (now scratch)) first × Placeable (length (now scratch)) second × Placeable (length (now scratch)) third × Placeable (length (now scratch)) fourth ⌝ }
+    ensures { λ _. ⌜ cols (now (copies .exit)) (now (scratch .exit)) ≡ placeFour cell first second third fourth (cols (now (copies .entry)) (now (scratch .entry))) ⌝ }
+{
+    place_cell(scattered, cell, Variable(first), copies, scratch);
+    place_cell(scattered, cell + 1, Variable(second), copies, scratch);
+    place_cell(scattered, cell + 2, Variable(third), copies, scratch);
+    place_cell(scattered, cell + 3, Variable(fourth), copies, scratch);
+}
+
+// The words of a piece without a fault, four at a time, in the cells from number `count` on. How many
+// are placed: all but the last three at the most.
+fn place_fours(
+    scattered: bool,
+    count: u64,
+    piece: &[u64],
+    copies: &mut [u64],
+    scratch: &mut [u64],
+) -> usize
     requires { ⌜ count + length (now piece) ≤ length (now copies) ⌝ }
-    requires { ⌜ ((j : ℕ) → j < length (now piece) → getD (now piece) j 0 < placeholder → 2 * indexOf (getD (now piece) j 0) + 1 < length (now scratch)) ⌝ }
+    requires { ⌜ ((j : ℕ) → j < length (now piece) → Placeable (length (now scratch)) (getD (now piece) j 0)) ⌝ }
+    ensures { λ r. ⌜ r ≤ length (now (piece .entry)) ⌝ }
+    ensures { λ r. ⌜ cellsRun count (now (piece .entry)) (cols (now (copies .entry)) (now (scratch .entry))) ≡ cellsRun (count + r) (drop r (now (piece .entry))) (cols (now (copies .exit)) (now (scratch .exit))) ⌝ }
+{
+    let mut i = 0;
+    while i + 3 < piece.len() {
+        let cell = count + i as u64;
+        place_four(
+            scattered,
+            cell,
+            piece[i],
+            piece[i + 1],
+            piece[i + 2],
+            piece[i + 3],
+            copies,
+            scratch,
+        );
+        i = i + 4;
+    }
+    i
+}
+
+// The same one by one, to the end.
+fn place_each(scattered: bool, count: u64, piece: &[u64], copies: &mut [u64], scratch: &mut [u64])
+    requires { ⌜ count + length (now piece) ≤ length (now copies) ⌝ }
+    requires { ⌜ ((j : ℕ) → j < length (now piece) → Placeable (length (now scratch)) (getD (now piece) j 0)) ⌝ }
     ensures { λ _. ⌜ cols (now (copies .exit)) (now (scratch .exit)) ≡ cellsRun count (now (piece .entry)) (cols (now (copies .entry)) (now (scratch .entry))) ⌝ }
 {
-    let scattered = is_scattered(piece);
     let mut i = 0;
     while i < piece.len() {
         place_cell(
@@ -216,4 +268,22 @@ pub(crate) fn place_cells(count: u64, piece: &[u64], copies: &mut [u64], scratch
         );
         i = i + 1;
     }
+}
+
+// The words of a piece without a fault, in the cells from number `count` on. Where neighbours name
+// neighbouring variables the processor foretells which are seen; where they do not, no branch asks.
+pub(crate) fn place_cells(count: u64, piece: &[u64], copies: &mut [u64], scratch: &mut [u64])
+    requires { ⌜ count + length (now piece) ≤ length (now copies) ⌝ }
+    requires { ⌜ ((j : ℕ) → j < length (now piece) → Placeable (length (now scratch)) (getD (now piece) j 0)) ⌝ }
+    ensures { λ _. ⌜ cols (now (copies .exit)) (now (scratch .exit)) ≡ cellsRun count (now (piece .entry)) (cols (now (copies .entry)) (now (scratch .entry))) ⌝ }
+{
+    let scattered = is_scattered(piece);
+    let placed = place_fours(scattered, count, piece, copies, scratch);
+    place_each(
+        scattered,
+        count + placed as u64,
+        &piece[placed..],
+        copies,
+        scratch,
+    );
 }
