@@ -61,7 +61,7 @@ pub(crate) fn write_words(at: usize, words: &[u64], buffer: &mut [u64])
 }
 
 // The lesser of two numbers.
-fn lesser(x: usize, y: usize) -> usize
+pub(crate) fn lesser(x: usize, y: usize) -> usize
     ensures { λ r. ⌜ (r ≤ x) × (r ≤ y) × (0 < x → 0 < y → 0 < r) ⌝ }
 {
     if x < y {
