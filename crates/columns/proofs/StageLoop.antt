@@ -108,7 +108,7 @@ rest-rows ws i rs r = r .are ∙ read-fuel rowSize (r .turns) (length (drop i ws
 module _ (height : ℕ) (bits steps piece : List ℕ) where
   pub record Staging (stage : List ℕ) (rows i : ℕ) : Type 0 where
     pub within : i ≤ length piece
-    pub few : rows ≤ 16
+    pub few : rows ≤ 32
     pub far : rows ≤ i
     pub started : rows ≡ 0 → i ≡ 0
     pub read : List Read
@@ -116,11 +116,11 @@ module _ (height : ℕ) (bits steps piece : List ℕ) where
     pub rest : Rest rowSize piece i left
     pub split : rowsOf piece ≡ read ++ left
     pub rows-are : length read ≡ rows
-    pub long : length stage ≡ 1024
+    pub long : length stage ≡ 2048
     pub lines : (many : ℕ) (own : ℕ → ℕ) (trace count : ℕ) (path : ℕ → List ℕ) → rowsFault many own trace count (rowsOf piece) ≡ 0 → Spells many path bits steps
         → cutLines height 64 rows stage ≡ map (padded height) (rowLines path read)
 
-  pub staging-begin : (stage : List ℕ) → length stage ≡ 1024 → Staging stage 0 0
+  pub staging-begin : (stage : List ℕ) → length stage ≡ 2048 → Staging stage 0 0
   unfolding rowsOf cutLines rowLines
   staging-begin stage long =
       record {
@@ -159,7 +159,7 @@ module _ (height : ℕ) (bits steps piece : List ℕ) where
         let f = row-fine (q .many) own (q .trace) (q .count + length (v .read)) (getD piece i 0) (getD piece (i + 1) 0) _ (g .good) in
         record { two = g .two; fits = g .fits; known = omega (arith, f .known, q .few); room = omega (arith, f .few, q .room .fits (getD piece i 0) (f .known)) }
 
-    module _ (t : Front i) (low : rows < 16) (stage' : List ℕ) (long' : length stage' ≡ 1024) where
+    module _ (t : Front i) (low : rows < 32) (stage' : List ℕ) (long' : length stage' ≡ 2048) where
       abbrev g : ℕ
       g = getD piece i 0
 
@@ -199,7 +199,7 @@ module _ (height : ℕ) (bits steps piece : List ℕ) where
               rw (add-one rows, w, cut-more height 64 rows stage l short (padded-length height (path g ++ cs)) room, v .lines many own trace count path e s, lines-append path (v .read) (whole g n cs ∷ []))
               (sym (map-append (padded height) (rowLines path (v .read)) (rowLines path (whole g n cs ∷ []))))
 
-    pub staging-done : (16 ≤ rows) ⊎ (length piece ≤ i) → Stages height bits steps piece stage i rows
+    pub staging-done : (32 ≤ rows) ⊎ (length piece ≤ i) → Stages height bits steps piece stage i rows
     staging-done h =
         record {
           within = v .within;
@@ -232,12 +232,12 @@ module _ (height trace count : ℕ) (piece constants₀ bits steps : List ℕ) w
   pub record Writing (constants stage : List ℕ) (row i : ℕ) : Type 0 where
     pub within : i ≤ length piece
     pub long : length constants ≡ length constants₀
-    pub staged : length stage ≡ 1024
+    pub staged : length stage ≡ 2048
     pub fine : (many : ℕ) (own : ℕ → ℕ) → rowsFault many own trace count (rowsOf piece) ≡ 0 → rowsFault many own trace row (rowsOf (drop i piece)) ≡ 0
     pub lines : (many : ℕ) (own : ℕ → ℕ) (path : ℕ → List ℕ) → rowsFault many own trace count (rowsOf piece) ≡ 0 → Spells many path bits steps
         → putLines height trace count (rowLines path (rowsOf piece)) constants₀ ≡ putLines height trace row (rowLines path (rowsOf (drop i piece))) constants
 
-  pub writing-begin : (stage : List ℕ) → length stage ≡ 1024 → Writing constants₀ stage count 0
+  pub writing-begin : (stage : List ℕ) → length stage ≡ 2048 → Writing constants₀ stage count 0
   writing-begin stage room = record { within = omega arith; long = refl; staged = room; fine = λ many own e. e; lines = λ many own path e s. refl }
 
   module _ (constants stage : List ℕ) (row i : ℕ) (v : Writing constants stage row i) where

@@ -41,12 +41,12 @@ pub record Blanks (height : ℕ) (bits steps lines : List ℕ) (n : ℕ) : Type 
 -- the first records of a piece, `next` words in all, are the first `rows` lines of the stage, 64 words apart
 pub record Stages (height : ℕ) (bits steps piece stage : List ℕ) (next rows : ℕ) : Type 0 where
   pub within : next ≤ length piece
-  pub few : rows ≤ 16
+  pub few : rows ≤ 32
   pub some : 0 < length piece → (0 < next) × (0 < rows)
   pub read : List Read
   pub split : rowsOf piece ≡ read ++ rowsOf (drop next piece)
   pub rows-are : length read ≡ rows
-  pub long : length stage ≡ 1024
+  pub long : length stage ≡ 2048
   pub lines : (many : ℕ) (own : ℕ → ℕ) (trace count : ℕ) (path : ℕ → List ℕ) → rowsFault many own trace count (rowsOf piece) ≡ 0 → Spells many path bits steps
       → cutLines height 64 rows stage ≡ map (padded height) (rowLines path read)
 

@@ -22,10 +22,9 @@ pub struct GateRows {
 }
 
 // A gate's line without constants at place `at`: the path's digits, then zeros.
-fn write_blank(at: usize, height: u64, bits: u64, steps: u64, buffer: &mut [u64; 1024])
-    requires { ⌜ (at + height ≤ 1024) × (steps ≤ height) × (length (now buffer) ≡ 1024) ⌝ }
+fn write_blank(at: usize, height: u64, bits: u64, steps: u64, buffer: &mut [u64])
+    requires { ⌜ (at + height ≤ length (now buffer)) × (steps ≤ height) ⌝ }
     ensures { λ _. ⌜ now (buffer .exit) ≡ put 1 (now (buffer .entry)) at (padded height (digits steps bits)) ⌝ }
-    ensures { λ _. ⌜ length (now (buffer .exit)) ≡ 1024 ⌝ }
 {
     write_path(at, bits, steps, buffer);
     write_same(0, at + steps as usize, height - steps, buffer);
@@ -68,12 +67,12 @@ fn stage_blank(
     bits: &[u64; 128],
     steps: &[u64; 128],
     lines: &[u64],
-    stage: &mut [u64; 1024],
+    stage: &mut [u64; 2048],
 )
-    requires { ⌜ (at + height ≤ 1024) × (gate < 128) × (getD (now steps) gate 0 ≤ height) × (length (now stage) ≡ 1024) ⌝ }
+    requires { ⌜ (at + height ≤ 2048) × (gate < 128) × (getD (now steps) gate 0 ≤ height) × (length (now stage) ≡ 2048) ⌝ }
     requires { ⌜ Blanks height (now bits) (now steps) (now lines) ready ⌝ }
     ensures { λ _. ⌜ now (stage .exit) ≡ put 1 (now (stage .entry)) at (padded height (digits (getD (now (steps .entry)) gate 0) (getD (now (bits .entry)) gate 0))) ⌝ }
-    ensures { λ _. ⌜ length (now (stage .exit)) ≡ 1024 ⌝ }
+    ensures { λ _. ⌜ length (now (stage .exit)) ≡ 2048 ⌝ }
 {
     let g = gate as usize;
     if gate < ready {
@@ -94,12 +93,12 @@ fn stage_line(
     steps: &[u64; 128],
     lines: &[u64],
     words: &[u64],
-    stage: &mut [u64; 1024],
+    stage: &mut [u64; 2048],
 )
-    requires { ⌜ (at + height ≤ 1024) × (gate < 128) × (getD (now steps) gate 0 + length (now words) ≤ height) × (length (now stage) ≡ 1024) ⌝ }
+    requires { ⌜ (at + height ≤ 2048) × (gate < 128) × (getD (now steps) gate 0 + length (now words) ≤ height) × (length (now stage) ≡ 2048) ⌝ }
     requires { ⌜ Blanks height (now bits) (now steps) (now lines) ready ⌝ }
     ensures { λ _. ⌜ now (stage .exit) ≡ put 1 (now (stage .entry)) at (padded height (digits (getD (now (steps .entry)) gate 0) (getD (now (bits .entry)) gate 0) ++ now (words .entry))) ⌝ }
-    ensures { λ _. ⌜ length (now (stage .exit)) ≡ 1024 ⌝ }
+    ensures { λ _. ⌜ length (now (stage .exit)) ≡ 2048 ⌝ }
 {
     stage_blank(at, height, gate, ready, bits, steps, lines, stage);
     let g = gate as usize;
@@ -112,7 +111,7 @@ pub struct Staged {
     pub rows: usize,
 }
 
-// The first records of a piece without a fault, at the most sixteen, as lines of the stage.
+// The first records of a piece without a fault, at the most 32, as lines of the stage.
 fn stage_rows(
     height: u64,
     ready: u64,
@@ -120,16 +119,16 @@ fn stage_rows(
     steps: &[u64; 128],
     lines: &[u64],
     piece: &[u64],
-    stage: &mut [u64; 1024],
+    stage: &mut [u64; 2048],
 ) -> Staged
-    requires { ⌜ (height ≤ 64) × (length (now stage) ≡ 1024) ⌝ }
+    requires { ⌜ (height ≤ 64) × (length (now stage) ≡ 2048) ⌝ }
     requires { ⌜ Blanks height (now bits) (now steps) (now lines) ready ⌝ }
     requires { ⌜ Stageable height (now steps) (now piece) ⌝ }
     ensures { λ r. ⌜ Stages height (now (bits .entry)) (now (steps .entry)) (now (piece .entry)) (now (stage .exit)) (r .next) (r .rows) ⌝ }
 {
     let mut rows = 0;
     let mut i = 0;
-    while rows < 16 {
+    while rows < 32 {
         if piece.len() <= i {
             return Staged {
                 next: i,
@@ -176,8 +175,8 @@ fn ready_lines(gates: GateRows, height: u64, long: usize, lines: &mut [u64; 1024
     blank_lines(gates.many, height, &bits, &steps, lines)
 }
 
-// The records of a piece without a fault, in the rows from `count` on: sixteen at a time, which are
-// staged as lines and then written column by column.
+// The records of a piece without a fault, in the rows from `count` on: 32 at a time, which are
+// staged as lines and then written column by column, a few lines of the cache in each.
 pub(crate) fn write_rows(
     height: u64,
     trace: u64,
@@ -195,7 +194,7 @@ pub(crate) fn write_rows(
     let ready = ready_lines(gates, height, piece.len(), &mut lines);
     let bits = gates.bits;
     let steps = gates.steps;
-    let mut stage = [0; 1024];
+    let mut stage = [0; 2048];
     let mut row = count as usize;
     let mut i = 0;
     while i < piece.len() {

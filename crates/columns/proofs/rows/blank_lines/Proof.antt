@@ -1,7 +1,7 @@
 -- `columns::rows::blank_lines` meets its contract. Each turn writes one line after those before it (StageLoop).
 -- Assumes nothing.
 use borrow.Author.Needs.{needs}
-use mathlib.Core.Path.{_≡_}
+use mathlib.Core.Path.{_≡_, _∙_}
 use native.Mathlib.Omega.{arith}
 use Prim.Native.Nat.{_+_, _-_, _*_, _≤_}
 use lib.ListN.{length}
@@ -41,7 +41,7 @@ write-blank-requires : tie.Need-write-blank-requires Inv-loop μ-loop
 write-blank-requires c κs =
     let s = c .before .before .before .before .before .before in
     let v = c .before .before .before .before .before .loop .inv in
-    (omega (arith, c .before .before .before .if1 .left, v .0, v .1, v .2 .room), s .pre .1 (c .before .before .before .before .before .loop .g) (c .before .before .before .before .loop-test .taken), v .1)
+    (omega (arith, c .before .before .before .if1 .left, v .0, v .1, v .2 .room), s .pre .1 (c .before .before .before .before .before .loop .g) (c .before .before .before .before .loop-test .taken))
 
 add-at : tie.Need-add-at Inv-loop μ-loop
 add-at c = let v = c .before .before .before .before .before .before .loop .inv in omega (arith, c .before .before .before .before .if1 .left, v .0, v .1, v .2 .room)
@@ -58,7 +58,7 @@ loop-again c =
     let l = c .before .before .before .before .before .before .loop in
     let v = l .inv in
     let room : a .height * l .g + a .height ≤ length (l .lines) = omega (arith, c .before .before .before .before .if1 .left, v .0, v .1, v .2 .room) in
-    (omega (arith, v .0), c .write-blank .ensures .1, blanks-next (a .height) (a .bits .now) (a .steps .now) (l .lines) _ (l .g) (v .2) room (rw (v .0) at (c .write-blank .ensures .0)))
+    (omega (arith, v .0), c .write-blank .kept .1 .1 .1 .1 .0 ∙ v .1, blanks-next (a .height) (a .bits .now) (a .steps .now) (l .lines) _ (l .g) (v .2) room (rw (v .0) at (c .write-blank .ensures)))
 
 returns-2 : tie.Need-returns-2 Inv-loop μ-loop
 returns-2 c = let v = c .before .loop .inv in (v .2, v .1)

@@ -17,9 +17,9 @@ use Rattle.columns.proofs.rows.stage_blank.Tie as tie
 -- where the line stands among those that are ready
 record Line (height gate len : ℕ) : Type 0 where
   pub inside : height * gate + height ≤ len
-  pub low : height * gate ≤ 131072
+  pub low : height * gate ≤ 262144
 
-line-of : (height gate ready : ℕ) (bits steps lines : List ℕ) → Blanks height bits steps lines ready → gate < ready → gate < 128 → height ≤ 1024 → Line height gate (length lines)
+line-of : (height gate ready : ℕ) (bits steps lines : List ℕ) → Blanks height bits steps lines ready → gate < ready → gate < 128 → height ≤ 2048 → Line height gate (length lines)
 line-of height gate ready bits steps lines v h few low =
     let k : gate ≤ 128 = omega arith in
     record { inside = omega (arith, mul-le-mul-left height h, v .room); low = omega (arith, mul-le-mul-left height k) }

@@ -14,7 +14,7 @@ abbrev Inv-loop : tie.InvT-loop
 Inv-loop height ready bits steps lines piece stage₀ rows₀ i₀ stage rows i = Staging height bits steps piece stage rows i
 
 abbrev μ-loop : tie.MeasureT-loop
-μ-loop height ready bits steps lines piece stage₀ rows₀ i₀ stage rows i = 16 - rows
+μ-loop height ready bits steps lines piece stage₀ rows₀ i₀ stage rows i = 32 - rows
 
 loop-holds : tie.Need-loop-holds Inv-loop μ-loop
 loop-holds c = let s = c .before .before in let a = s .args in staging-begin (a .height) (a .bits .now) (a .steps .now) (a .piece .now) (a .stage .now) (s .pre .0 .1)
@@ -76,7 +76,7 @@ stage-line-requires c κs =
     let l = c .before .before .before .before .before .before .loop in
     let t = turn (c .before .before .before .before) in
     let n = part-length (a .piece .now) (l .i + 2) (getD (a .piece .now) (l .i + 1) 0) (omega (arith, t .two, t .fits)) in
-    let h : l .rows < 16 = c .before .before .before .before .before .loop-test .taken in
+    let h : l .rows < 32 = c .before .before .before .before .before .loop-test .taken in
     ((omega (arith, h, s .pre .0 .0), t .known, omega (arith, n, t .room), l .inv .long), s .pre .1 .0)
 
 add-rows : tie.Need-add-rows Inv-loop μ-loop

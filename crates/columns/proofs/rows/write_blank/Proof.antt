@@ -33,15 +33,16 @@ blank-by k at b₀ b₁ b₂ bits steps h e₁ e₂ =
     let x : at + length path * 1 ≡ at + steps = omega (arith, n) in
     e₂ ∙ rw e₁ (sym (ap (put 1 b₀ at) (padded-split k path (omega (arith, n))) ∙ put-append 1 b₀ at path (replicate (k - length path) 0) ∙ rw (x, n)))
 
+same-length : tie.Need-same-length
+same-length c = search needs
+
 returns : tie.Need-returns
 returns c =
-    let s = c .before .before .before .before in
+    let same = c .before .before in
+    let path = same .before .before .before .before in
+    let s = path .before .before .before in
     let a = s .args in
-    let same = c .write-same in
-    let path = c .before .before .write-path in (
-      blank-by (a .height) (a .at) (a .buffer .now) _ _ (a .bits) (a .steps) (s .pre .1) (path .ensures) (same .ensures),
-      same .kept .1 .1 .1 .0 ∙ path .kept .1 .1 .1 .0 ∙ s .pre .2,
-    )
+    blank-by (a .height) (a .at) (a .buffer .now) _ _ (a .bits) (a .steps) (s .pre .1) (path .write-path .ensures) (same .write-same .ensures)
 
 pub write-blank-spec : {M : Type 1} → statement M
 write-blank-spec =
@@ -51,4 +52,5 @@ write-blank-spec =
     add-write-same
     sub-write-same
     write-same-requires
+    same-length
     returns)

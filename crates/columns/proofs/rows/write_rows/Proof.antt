@@ -67,7 +67,7 @@ record Turn (len trace i row next rows : ℕ) : Type 0 where
   pub some : 0 < next
   pub within : i + next ≤ len
   pub low : len ≤ 18446744073709551615
-  pub few : rows ≤ 16
+  pub few : rows ≤ 32
   pub room : row + rows ≤ trace
 
 turn : (c : tie.After-stage-rows Inv-loop μ-loop) → Turn (length (c .before .before .before .before .before .before .before .before .before .before .before .before .before .before .args .piece .now)) (c .before .before .before .before .before .before .before .before .before .before .before .before .before .before .args .trace) (c .before .before .before .before .before .before .before .loop .i) (c .before .before .before .before .before .before .before .loop .row) (c .stage-rows .result .next) (c .stage-rows .result .rows)
