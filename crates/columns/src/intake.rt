@@ -23,6 +23,7 @@ use crate::tables::MOST_TABLES;
 use crate::tables::tables_fault;
 use crate::tables::write_tables;
 use tree::plan::Plan;
+use tree::plan::parts_fault;
 
 // The phases of a state. Any other word is no open state either.
 pub const NEVER: u64 = 0;
@@ -133,7 +134,18 @@ impl Intake {
         ensures { λ r. ⌜ r ≡ stands (settingOf (self .plan)) (stateOf self) ⌝ }
     {
         let plan = self.plan;
-        if plan.fault() != 0 {
+        // not `plan.fault()`: each call on a state asks this, and the plan would be handed over by value
+        let number = parts_fault(
+            plan.parameters(),
+            &plan.gates,
+            plan.gate_count,
+            &plan.nodes,
+            plan.node_count,
+            plan.degree,
+            plan.constants,
+            plan.factor,
+        );
+        if number != 0 {
             return false;
         }
         if self.phase != OPEN {

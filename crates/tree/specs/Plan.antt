@@ -1,6 +1,6 @@
 -- 01, 'When a call is turned down' and 'Gates and tree': what planning, the test for a made-up plan, paths and the table-id index answer, for any arguments.
 --
--- Main definitions: `planNumber`, `planned`, `planFault`, `pathAnswer`, `pathsAnswer`, `tableIdAnswer`.
+-- Main definitions: `planNumber`, `planned`, `partsFault`, `planFault`, `pathAnswer`, `pathsAnswer`, `tableIdAnswer`.
 use Prim.Native.Nat.{_*_, ℕ}
 use lib.Dec.{eqb, leb, ltb}
 use lib.ListN.{drop, length, replicate, take}
@@ -118,6 +118,17 @@ gatesGiven p = take (p .«gate_count» * gateWords) (p .gates)
 -- the lookup gate's constants in a plan
 abbrev pub planExtra : Plan → ℕ
 planExtra p = extraOf (modeOf (p .lookup))
+
+-- the test for 19 over a plan's parts, in the same order; gate words that are not there are a fault too, which a plan's own array of 384 never has
+unfoldable pub partsFault : Parameters → List ℕ → ℕ → List ℕ → ℕ → ℕ → ℕ → ℕ → ℕ
+partsFault ps gs n nodes m d k f =
+    pick (eqb (parametersNumber ps) 0)
+    (pick (leb 1 n)
+    (pick (leb n mostGates)
+    (pick (leb (n * gateWords) (length gs))
+    (pick (eqb (gatesNumber (ps .mode) (ps .allowed) (take (n * gateWords) gs) n) 0)
+    (pick (nodesFit (extraOf (ps .mode)) (take (n * gateWords) gs) n nodes m d k f) 0 19)
+    19) 19) 19) 19) 19
 
 -- "19 is given for a made-up plan: parameters or gates that 1 to 7 turn down, a child not after its parent or past the nodes, a leaf below depth 31, leaves
 -- other than each placed gate just once, or D, K or F not the tree's."

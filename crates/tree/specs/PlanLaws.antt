@@ -1,8 +1,8 @@
 -- What a plan without a fault has, and that planning's plans have none: all that the layers above need of plans.
 --
--- Main definition: `Faultless`. Main statements: `fault-none`, `planned-fault`, `planned-fields`, `planned-constants`, `paths-at`.
+-- Main definition: `Faultless`. Main statements: `fault-none`, `parts-of`, `planned-fault`, `planned-fields`, `planned-constants`, `paths-at`.
 use Prim.Native.Nat.{_*_, _+_, _<_, _≤_, ℕ}
-use borrow.Author.Tests.{eq-eqb, eqb-true, le-leb, leb-true, ne-eqb}
+use borrow.Author.Tests.{eq-eqb, eqb-true, le-leb, leb-true, lt-leb, ne-eqb}
 use lib.Dec.{eqb, leb}
 use lib.ListN.{drop, getD, length, replicate}
 use lib.Seq.{take-append-seam}
@@ -10,6 +10,7 @@ use mathlib.Core.List.{List}
 use mathlib.Core.Logic.{_≢_}
 use mathlib.Core.Option.{Option, none, some}
 use mathlib.Core.Path.{_∙_, _≡_, refl, sym}
+use native.Mathlib.Decide.{decLe}
 use native.Mathlib.Omega.{arith}
 use Rattle.base.specs.Firsts.{first-found, first-none, first-zero}
 use Rattle.base.specs.Pick.{pick, pick-no, pick-zero}
@@ -26,7 +27,7 @@ use Rattle.selector.specs.Tree.{Tree, leaf}
 use Rattle.parameters.specs.Lookup.{modeOf}
 use Rattle.parameters.specs.Parameters.{flagNumber, lookupOf, parametersNumber, rangeNumber}
 use Rattle.parameters.specs.ParametersLaws.{InRange, in-range, lookup-words}
-use Rattle.tree.specs.Plan.{gatesGiven, parametersOf, pathAnswer, pathsAnswer, planAnswer, planExtra, planFault, planNumber, planWith, planned, refusedPlan, treeFor, treeNumber, wordsNumber}
+use Rattle.tree.specs.Plan.{gatesGiven, parametersOf, partsFault, pathAnswer, pathsAnswer, planAnswer, planExtra, planFault, planNumber, planWith, planned, refusedPlan, treeFor, treeNumber, wordsNumber}
 use Rattle.tree.specs.Shapes.{shapeOf}
 use Rattle.tree.specs.declared.nodes.Shape.{Shape}
 use Rattle.parameters.specs.declared.parameters.Parameters.{Parameters}
@@ -58,6 +59,17 @@ fault-none p e =
       gates = eqb-true (gatesNumber (modeOf (p .lookup)) (p .allowed) gs n) 0 (d .0);
       nodes = sturdy (planExtra p) gs n (p .nodes) (p .«node_count») (p .degree) (p .constants) (p .factor) (f .0);
     }
+
+-- a plan's parts have the plan's own fault: 128 gates of three words are 384, so that its array holds the words of every count that is allowed
+pub parts-of : (q : Plan) → length (q .gates) ≡ 384
+    → partsFault (parametersOf q) (q .gates) (q .«gate_count») (q .nodes) (q .«node_count») (q .degree) (q .constants) (q .factor) ≡ planFault q
+unfolding partsFault planFault
+parts-of q long = go (decLe (q .«gate_count») mostGates)
+  where
+    go : Dec (q .«gate_count» ≤ mostGates)
+        → partsFault (parametersOf q) (q .gates) (q .«gate_count») (q .nodes) (q .«node_count») (q .degree) (q .constants) (q .factor) ≡ planFault q
+    go (yes h) = rw (le-leb (q .«gate_count» * gateWords) (length (q .gates)) (omega arith))
+    go (no h) = rw (lt-leb (q .«gate_count») mostGates (omega arith))
 
 -- what accepted parameter and gate words give
 pub record Accepted (ps : Parameters) (gs : List ℕ) : Type 0 where

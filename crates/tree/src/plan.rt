@@ -1,7 +1,7 @@
-// Plans by value: the test for a made-up plan, paths and the table-id index.
+// Plans by value: the test for a made-up plan, which is also there for a plan's parts, paths and the table-id index.
 ghost use mathlib.Core.Path.{_≡_};
 ghost use Rattle.parameters.specs.Lookup.{flagOf};
-ghost use Rattle.tree.specs.Plan.{zeroPlan, parametersOf, planFault, pathAnswer, pathsAnswer, tableIdAnswer};
+ghost use Rattle.tree.specs.Plan.{zeroPlan, parametersOf, partsFault, planFault, pathAnswer, pathsAnswer, tableIdAnswer};
 use crate::gates::GATE_WORDS;
 use crate::made_up::nodes_fit;
 use crate::paths::all_placements;
@@ -60,6 +60,54 @@ fn flag_of(share: bool) -> u64
     0
 }
 
+// 19 for the parts of a made-up plan, else 0. The arrays are lent, so that a caller who holds them hands over no copy of nine kilobytes.
+pub fn parts_fault<'a>(
+    parameters: Parameters,
+    gates: &'a [u64],
+    gate_count: u64,
+    nodes: &'a [u64; 765],
+    node_count: u64,
+    degree: u64,
+    constants: u64,
+    factor: u64,
+) -> u64
+    ensures { λ r. ⌜ r ≡ partsFault parameters (now (gates .entry)) «gate_count» (now (nodes .entry)) «node_count» degree constants factor ⌝ }
+{
+    if parameters.number() != 0 {
+        return 19;
+    }
+    if gate_count < 1 {
+        return 19;
+    }
+    if 128 < gate_count {
+        return 19;
+    }
+    let many = gate_count as usize;
+    let end = many * GATE_WORDS;
+    if gates.len() < end {
+        return 19; // a plan's own array is never too short, a slice may be
+    }
+    let words = &gates[..end];
+    if gates_number(words, many, parameters.mode, parameters.allowed) != 0 {
+        return 19;
+    }
+    let extra = extra_of(parameters.mode);
+    let fit = nodes_fit(
+        words,
+        nodes,
+        many,
+        node_count as usize,
+        extra,
+        degree,
+        constants,
+        factor,
+    );
+    if fit {
+        return 0;
+    }
+    19
+}
+
 impl Plan {
     // The plan of zeros that a refusal hands back.
     pub fn zero() -> Self
@@ -83,19 +131,22 @@ impl Plan {
     }
 
     // The parameter words of a plan.
-    pub(crate) fn parameters(self) -> Parameters
+    pub fn parameters(self) -> Parameters
         ensures { λ r. ⌜ r ≡ parametersOf self ⌝ }
     {
         let lookup = self.lookup;
+        let mode = lookup.mode();
+        let width = lookup.lookup_width();
+        let share = flag_of(lookup.share_table_id());
         Parameters {
             trace: self.trace,
             copy: self.copy,
             allowed: self.allowed,
             specialised: self.specialised,
             variables: self.variables,
-            mode: lookup.mode(),
-            width: lookup.lookup_width(),
-            share: flag_of(lookup.share_table_id()),
+            mode: mode,
+            width: width,
+            share: share,
         }
     }
 
@@ -104,39 +155,18 @@ impl Plan {
         ensures { λ r. ⌜ r ≡ planFault self ⌝ }
     {
         let parameters = self.parameters();
-        if parameters.number() != 0 {
-            return 19;
-        }
-        let count = self.gate_count;
-        if count < 1 {
-            return 19;
-        }
-        if 128 < count {
-            return 19;
-        }
-        let many = count as usize;
-        let end = many * GATE_WORDS;
         let gates = self.gates;
-        let words = &gates[..end];
-        if gates_number(words, many, parameters.mode, self.allowed) != 0 {
-            return 19;
-        }
         let nodes = self.nodes;
-        let extra = extra_of(parameters.mode);
-        let fit = nodes_fit(
-            words,
+        parts_fault(
+            parameters,
+            &gates,
+            self.gate_count,
             &nodes,
-            many,
-            self.node_count as usize,
-            extra,
+            self.node_count,
             self.degree,
             self.constants,
             self.factor,
-        );
-        if fit {
-            return 0;
-        }
-        19
+        )
     }
 
     // The path of a gate: 19 first, then 12 for a gate that is not listed. A dropped gate's path is empty.

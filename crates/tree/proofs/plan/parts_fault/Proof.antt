@@ -1,0 +1,138 @@
+-- `plan::parts_fault` meets its contract: the code makes the definition's tests in the definition's order; accepted records are sound, which the walk asks for.
+-- Assumes nothing.
+use Prim.Native.Nat.{_*_, ℕ}
+use borrow.Author.Needs.{needs}
+use borrow.Author.Tests.{eq-eqb, le-leb, lt-leb, ne-eqb}
+use lib.Dec.{eqb}
+use lib.ListN.{length, take}
+use lib.Seq.{length-take-le}
+use mathlib.Core.Bool.{Bool}
+use mathlib.Core.Path.{_∙_, _≡_, ap, sym}
+use native.Mathlib.Omega.{arith}
+use Rattle.base.specs.Pick.{pick}
+use Rattle.selector.specs.Gates.{gateWords}
+use Rattle.selector.specs.MadeUp.{nodesFit}
+use Rattle.selector.specs.RecordLaws.{gates-sound}
+use Rattle.selector.specs.Refusals.{extraOf, gatesNumber, mostGates}
+use Rattle.parameters.specs.Parameters.{parametersNumber}
+use Rattle.tree.specs.Plan.{partsFault}
+use Rattle.tree.proofs.plan.parts_fault.Statement.{statement}
+use Rattle.tree.proofs.plan.parts_fault.Tie as tie
+
+number-requires : tie.Need-number-requires
+number-requires c κs = search needs
+
+returns : tie.Need-returns
+unfolding partsFault
+returns c =
+    let a = c .before .before .before .args in
+    rw (ne-eqb (parametersNumber (a .parameters)) 0 (λ z. c .if1 .taken (c .before .number .ensures ∙ z)))
+
+returns-2 : tie.Need-returns-2
+unfolding partsFault
+returns-2 c =
+    let a = c .before .before .before .before .args in
+    rw (eq-eqb (parametersNumber (a .parameters)) 0 (sym (c .before .before .number .ensures) ∙ c .before .if1 .left), lt-leb 1 (a .gate-count) (omega arith))
+
+returns-3 : tie.Need-returns-3
+unfolding partsFault
+returns-3 c =
+    let a = c .before .before .before .before .before .args in
+    rw (
+      eq-eqb (parametersNumber (a .parameters)) 0 (sym (c .before .before .before .number .ensures) ∙ c .before .before .if1 .left),
+      le-leb 1 (a .gate-count) (omega arith),
+      lt-leb (a .gate-count) mostGates (omega arith),
+    )
+
+mul-end : tie.Need-mul-end
+mul-end c = omega arith
+
+returns-4 : tie.Need-returns-4
+unfolding partsFault
+returns-4 c =
+    let a = c .before .before .before .before .before .before .args in
+    rw (
+      eq-eqb (parametersNumber (a .parameters)) 0 (sym (c .before .before .before .before .number .ensures) ∙ c .before .before .before .if1 .left),
+      le-leb 1 (a .gate-count) (omega arith),
+      le-leb (a .gate-count) mostGates (omega arith),
+      lt-leb (a .gate-count * gateWords) (length (a .gates .now)) (omega arith),
+    )
+
+-- the words of the gates are all there
+lent : (c : tie.Else4) → length (take (c .before .before .before .before .before .before .args .gate-count * gateWords) (c .before .before .before .before .before .before .args .gates .now)) ≡ c .before .before .before .before .before .before .args .gate-count * gateWords
+lent c =
+    let a = c .before .before .before .before .before .before .args in
+    length-take-le (a .gate-count * gateWords) (a .gates .now) (omega arith)
+
+slice-aggregate-words : tie.Need-slice-aggregate-words
+slice-aggregate-words c = sym (lent (c .before))
+
+gates-number-requires : tie.Need-gates-number-requires
+gates-number-requires c κs = let l = lent (c .before) in (omega arith, omega arith)
+
+-- what is left of the definition, where the tests before those of the gates are passed
+gates-left : (c : tie.Else4) →
+    let a = c .before .before .before .before .before .before .args in
+    partsFault (a .parameters) (a .gates .now) (a .gate-count) (a .nodes .now) (a .node-count) (a .degree) (a .constants) (a .factor)
+    ≡ pick (eqb (gatesNumber (a .parameters .mode) (a .parameters .allowed) (take (a .gate-count * gateWords) (a .gates .now)) (a .gate-count)) 0)
+    (pick (nodesFit (extraOf (a .parameters .mode)) (take (a .gate-count * gateWords) (a .gates .now)) (a .gate-count) (a .nodes .now) (a .node-count) (a .degree) (a .constants) (a .factor)) 0 19)
+    19
+unfolding partsFault
+gates-left c =
+    let a = c .before .before .before .before .before .before .args in
+    rw (
+      eq-eqb (parametersNumber (a .parameters)) 0 (sym (c .before .before .before .before .number .ensures) ∙ c .before .before .before .if1 .left),
+      le-leb 1 (a .gate-count) (omega arith),
+      le-leb (a .gate-count) mostGates (omega arith),
+      le-leb (a .gate-count * gateWords) (length (a .gates .now)) (omega arith),
+    )
+
+returns-5 : tie.Need-returns-5
+returns-5 c =
+    let a = c .before .before .before .before .before .before .before .before .before .args in
+    rw (gates-left (c .before .before .before), ne-eqb (gatesNumber (a .parameters .mode) (a .parameters .allowed) (take (a .gate-count * gateWords) (a .gates .now)) (a .gate-count)) 0 (λ z. c .if5 .taken (c .before .gates-number .ensures ∙ z)))
+
+extra-of-requires : tie.Need-extra-of-requires
+extra-of-requires c κs = search needs
+
+nodes-fit-requires : tie.Need-nodes-fit-requires
+nodes-fit-requires c κs =
+    let a = c .before .before .before .before .before .before .before .before .before .before .args in
+    let l = lent (c .before .before .before .before) in
+    rw (c .extra-of .ensures) (gates-sound (a .parameters .mode) (a .parameters .allowed) (take (a .gate-count * gateWords) (a .gates .now)) (a .gate-count) (sym (c .before .before .gates-number .ensures) ∙ c .before .if5 .left) (omega arith) (omega arith))
+
+-- where the gates are accepted, all that is left is whether the nodes fit
+nodes-left : (c : tie.After-nodes-fit) →
+    let a = c .before .before .before .before .before .before .before .before .before .before .before .args in
+    pick (c .nodes-fit .result) 0 19 ≡ partsFault (a .parameters) (a .gates .now) (a .gate-count) (a .nodes .now) (a .node-count) (a .degree) (a .constants) (a .factor)
+nodes-left c =
+    let a = c .before .before .before .before .before .before .before .before .before .before .before .args in
+    let gs = take (a .gate-count * gateWords) (a .gates .now) in
+    let x = c .nodes-fit .ensures
+    ∙ ap (λ (z : ℕ). nodesFit z gs (a .gate-count) (a .nodes .now) (a .node-count) (a .degree) (a .constants) (a .factor)) (c .before .extra-of .ensures) in
+    let e = sym (c .before .before .before .gates-number .ensures) ∙ c .before .before .if5 .left in
+    rw (gates-left (c .before .before .before .before .before), eq-eqb (gatesNumber (a .parameters .mode) (a .parameters .allowed) gs (a .gate-count)) 0 e, x)
+
+returns-6 : tie.Need-returns-6
+returns-6 c = ap (λ (b : Bool). pick b 0 19) (sym (c .if6 .taken)) ∙ nodes-left (c .before)
+
+returns-7 : tie.Need-returns-7
+returns-7 c = ap (λ (b : Bool). pick b 0 19) (sym (c .if6 .left)) ∙ nodes-left (c .before)
+
+pub parts-fault-spec : {M : Type 1} → statement M
+parts-fault-spec =
+    tie.close
+    (tie.spec
+    number-requires
+    returns
+    returns-2
+    returns-3
+    mul-end
+    returns-4
+    slice-aggregate-words
+    gates-number-requires
+    returns-5
+    extra-of-requires
+    nodes-fit-requires
+    returns-6
+    returns-7)
