@@ -93,7 +93,7 @@ impl Lent {
     }
 
     /// Planning, opening, every section in pieces of at most so many records, finishing: the time
-    /// of each step.
+    /// of each step. Finishing comes right after the cells, as it does in the original.
     pub fn whole(&mut self, most: usize) -> Steps {
         let (plan, planning) = timed(|| self.plan());
         Steps {
@@ -101,8 +101,8 @@ impl Lent {
             opening: timed(|| self.open(&plan)).1,
             rows: timed(|| self.give_rows(most)).1,
             s_words: timed(|| self.give_s_words(most)).1,
-            cells: timed(|| self.give_cells(most)).1,
             tables: timed(|| self.give_tables(most)).1,
+            cells: timed(|| self.give_cells(most)).1,
             finishing: timed(|| self.finish()).1,
         }
     }
@@ -115,8 +115,8 @@ pub struct Steps {
     opening: Duration,
     rows: Duration,
     s_words: Duration,
-    cells: Duration,
     tables: Duration,
+    cells: Duration,
     finishing: Duration,
 }
 
