@@ -60,6 +60,25 @@ pub(crate) fn write_words(at: usize, words: &[u64], buffer: &mut [u64])
     }
 }
 
+// A few words at consecutive places, two at a time: for so few a call of the machine's own copy, which the
+// compiler makes of the plain loop, takes longer.
+pub(crate) fn write_few(at: usize, words: &[u64], buffer: &mut [u64])
+    requires { ⌜ at + length (now words) ≤ length (now buffer) ⌝ }
+    ensures { λ _. ⌜ now (buffer .exit) ≡ put 1 (now (buffer .entry)) at (now (words .entry)) ⌝ }
+{
+    let mut i = 0;
+    while i + 1 < words.len() {
+        let first = words[i];
+        let second = words[i + 1];
+        buffer[at + i] = first;
+        buffer[at + i + 1] = second;
+        i = i + 2;
+    }
+    if i < words.len() {
+        buffer[at + i] = words[i];
+    }
+}
+
 // The lesser of two numbers.
 pub(crate) fn lesser(x: usize, y: usize) -> usize
     ensures { λ r. ⌜ (r ≤ x) × (r ≤ y) × (0 < x → 0 < y → 0 < r) ⌝ }
