@@ -60,12 +60,15 @@ fn flag_of(share: bool) -> u64
     0
 }
 
+// A tree's node words, as a plan has them.
+pub type Nodes = [u64; 765];
+
 // 19 for the parts of a made-up plan, else 0. The arrays are lent, so that a caller who holds them hands over no copy of nine kilobytes.
 pub fn parts_fault<'a>(
     parameters: Parameters,
     gates: &'a [u64],
     gate_count: u64,
-    nodes: &'a [u64; 765],
+    nodes: &'a Nodes,
     node_count: u64,
     degree: u64,
     constants: u64,
