@@ -42,7 +42,7 @@ use Rattle.pieces.specs.Calls.{Call, rows, sWords, cellWords, tableWords, finis
 use Rattle.pieces.specs.Whole.{Circuit, columnsOf, namesAt, lastOf, firstOf, copyAt, scratchAt, laidOver}
 use Rattle.columns.specs.Intake.{labelsOf, storeOf}
 use Rattle.claim.specs.Chain.{Kept, answer}
-use Rattle.claim.specs.Statement.{product, noughts, RowOf, Stands, Has, SameColumns, Right, settingFor, kept}
+use Rattle.claim.specs.Statement.{product, noughts, RowOf, Stands, Has, SameColumns, Right, settingFor, kept, Finished}
 use Rattle.claim.specs.Model.{circuitBy, FinishesBy}
 use Rattle.claim.specs.Theorem.{claim}
 use Rattle.stage.specs.Listed.{parametersFrom}
@@ -258,10 +258,13 @@ opens-among : openNumber x₉ (old 1 4 2) ≡ 0
 unfolding lone old roomToOpen openNumber
 opens-among = refl
 
+pub finished₉ : Finished two nop (old 1 5 3) p9-calls
+finished₉ = finished two nop (lone 2 2 1) accepts₉ known₉ (λ g. pathOf g (leaf 0)) (lone-path 2 2 1) _ found₉ labels₉ (old 1 5 3) p9-calls opens₉ (runs₉ .0)
+
 alike₉ : SameColumns (settingFor two nop) (kept two nop (old 1 5 3) p9-calls .store) (kept two nop (old 1 4 2) p9-refused .store)
 alike₉ =
     claim two nop (old 1 5 3) p9-calls .alike
-    (finished two nop (lone 2 2 1) accepts₉ known₉ (λ g. pathOf g (leaf 0)) (lone-path 2 2 1) _ found₉ labels₉ (old 1 5 3) p9-calls opens₉ (runs₉ .0))
+    finished₉
     two nop (old 1 4 2) p9-refused
     (finished two nop (lone 2 2 1) accepts₉ known₉ (λ g. pathOf g (leaf 0)) (lone-path 2 2 1) _ found₉ labels₉ (old 1 4 2) p9-refused opens-among (runs₉ .1))
     (ap (λ (k : Circuit). record { parameters = two; gates = nop; words = k }) (circuit-known two nop (lone 2 2 1) accepts₉ known₉ (λ g. pathOf g (leaf 0)) (lone-path 2 2 1) _ found₉ labels₉ (old 1 5 3) p9-calls opens₉ ∙ (runs₉ .2) ∙ sym (circuit-known two nop (lone 2 2 1) accepts₉ known₉ (λ g. pathOf g (leaf 0)) (lone-path 2 2 1) _ found₉ labels₉ (old 1 4 2) p9-refused opens-among)))
