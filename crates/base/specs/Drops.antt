@@ -1,9 +1,9 @@
 -- What stands at the front of a list from which i words are dropped, for a loop that goes by one, two or three words.
 --
--- Main statements: `drop-none`, `drop-one`, `drop-last`, `drop-two`, `drop-three`.
-use mathlib.Core.Path.{_≡_, refl, ap, _∙_}
+-- Main statements: `drop-none`, `drop-one`, `drop-last`, `drop-two`.
+use mathlib.Core.Path.{_≡_, ap, _∙_}
 use mathlib.Core.List.{List, [], _∷_}
-use Prim.Native.Nat.{ℕ, suc, _+_, _≤_, _<_}
+use Prim.Native.Nat.{ℕ, _+_, _≤_, _<_}
 use native.Mathlib.Numerals.{add-one}
 use native.Mathlib.Omega.{arith}
 use lib.ListN.{length, getD, drop, drop-of-length-le}
@@ -23,11 +23,3 @@ drop-two xs i h =
     let e : i + 1 + 1 ≡ i + 2 = omega arith in
     drop-one xs i (omega arith)
     ∙ ap (λ (l : List ℕ). getD xs i 0 ∷ l) (drop-one xs (i + 1) h ∙ ap (λ (k : ℕ). getD xs (i + 1) 0 ∷ drop k xs) e)
-
-pub drop-three : (xs : List ℕ) (i : ℕ) → i + 2 < length xs
-    → drop i xs ≡ getD xs i 0 ∷ (getD xs (i + 1) 0 ∷ (getD xs (i + 2) 0 ∷ drop (i + 3) xs))
-drop-three xs i h =
-    let e : i + 2 + 1 ≡ i + 3 = omega arith in
-    drop-two xs i (omega arith)
-    ∙ ap (λ (l : List ℕ). getD xs i 0 ∷ (getD xs (i + 1) 0 ∷ l))
-    (drop-one xs (i + 2) h ∙ ap (λ (k : ℕ). getD xs (i + 2) 0 ∷ drop k xs) e)

@@ -1,10 +1,10 @@
 -- Powers of two: the exponent of the smallest one not below a number.
 --
 -- Main definitions: `exponent`, `isPower`.
--- Main statements: `exponent-enough` and `exponent-least` (it is the smallest), `exponent-of-power`, `power-is` (a power of two is the power of its exponent).
-use mathlib.Core.Path.{_≡_, refl, sym, ap, _∙_}
-use mathlib.Core.Bool.{Bool, true, false}
-use Prim.Native.Nat.{ℕ, zero, suc, _+_, _-_, _*_, _^_, _≤_, _<_}
+-- Main statements: `exponent-enough` and `exponent-least` (it is the smallest), `power-is` (a power of two is the power of its exponent).
+use mathlib.Core.Path.{_≡_, refl, ap}
+use mathlib.Core.Bool.{Bool, true}
+use Prim.Native.Nat.{ℕ, zero, suc, _+_, _-_, _^_, _≤_, _<_}
 use native.Mathlib.Numerals.{add-one}
 use native.Mathlib.Decide.{ℕ-discrete, decLt}
 use native.Mathlib.Omega.{arith}
@@ -50,7 +50,7 @@ enough-from (suc k) e n h = by (decLt (2 ^ e) n) (enough-from k (suc e) n (omega
     by (no a) more = rw (le-leb n (2 ^ e) (omega arith)) (omega arith)
     by (yes a) more = rw (lt-leb n (2 ^ e) a) more
 
-pub exponent-enough : (n : ℕ) → n ≤ 2 ^ exponent n
+exponent-enough : (n : ℕ) → n ≤ 2 ^ exponent n
 exponent-enough n = enough-from n 0 n (omega arith)
 
 least-from : (k e n j : ℕ) → e ≤ j → n ≤ 2 ^ j → exponentFrom k e n ≤ j
@@ -77,13 +77,6 @@ exponent-between n j low high = by (decLt (exponent n) (suc j))
         go (yes q) = let e : 2 ^ exponent n ≡ 2 ^ j = ap (λ (z : ℕ). 2 ^ z) q in omega (arith, exponent-enough n)
         go (no d) = let s : exponent n < j = omega arith in omega (arith, exponent-enough n, pow-lt s)
     by (no a) = omega (arith, exponent-least n (suc j) high)
-
-pub exponent-of-power : (j : ℕ) → exponent (2 ^ j) ≡ j
-exponent-of-power j = by (decLt (exponent (2 ^ j)) j)
-  where
-    by : Dec (exponent (2 ^ j) < j) → exponent (2 ^ j) ≡ j
-    by (yes a) = absurd (omega (arith, exponent-enough (2 ^ j), pow-lt a))
-    by (no a) = omega (arith, exponent-least (2 ^ j) j (omega arith))
 
 -- a power of two is the power of its exponent
 pub power-is : (n : ℕ) → isPower n ≡ true → 2 ^ exponent n ≡ n

@@ -2,7 +2,7 @@
 -- modulo m may stand for each other; what has an inverse cancels.
 --
 -- Main statements: `mod-mul`, `mul-mod`, `pow-mod`, `same-left`, `same-right`, `same-pow`, `cancel`.
-use mathlib.Core.Path.{_≡_, refl, sym, ap, _∙_}
+use mathlib.Core.Path.{_≡_, sym, ap, _∙_}
 use Prim.Native.Nat.{ℕ, zero, suc, _+_, _*_, _/_, _%_, _^_}
 use native.Mathlib.Nat.{add-mul, mul-assoc, mul-comm, mul-right-comm, one-mul, mul-add-mod-self-right, div-add-mod', pow-zero, pow-suc}
 

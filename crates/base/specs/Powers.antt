@@ -1,8 +1,8 @@
 -- Powers: laws that the library lacks, and a power modulo m by repeated squaring, which computes on numerals.
 --
 -- Main definition: `fast`. Main statements: `pow-mul`, `mul-pow`, `halve-pow`, `fast-is-power`.
-use mathlib.Core.Path.{_≡_, refl, sym, ap, _∙_}
-use Prim.Native.Nat.{ℕ, zero, suc, _+_, _*_, _/_, _%_, _^_, _<_}
+use mathlib.Core.Path.{_≡_, refl, ap, _∙_}
+use Prim.Native.Nat.{ℕ, zero, suc, _*_, _/_, _%_, _^_, _<_}
 use native.Mathlib.Nat.{mul-assoc, mul-comm, mul-one, one-mul, zero-mul, mul-zero, mul-suc, suc-mul, mul-mul-mul-comm, div-add-mod', pow-zero, pow-suc}
 use native.Mathlib.Omega.{arith}
 use lib.Arith.{lt-one}
@@ -33,7 +33,7 @@ square-pow b zero = rw (pow-zero, zero-mul, pow-zero)
 square-pow b (suc e) = rw (pow-suc, square-pow b e, suc-mul, pow-add b (e * 2) 2, pow-two)
 
 -- a power by the exponent's last bit
-pub halve-pow : (b e : ℕ) → (b * b) ^ (e / 2) * b ^ (e % 2) ≡ b ^ e
+halve-pow : (b e : ℕ) → (b * b) ^ (e / 2) * b ^ (e % 2) ≡ b ^ e
 halve-pow b e = rw (square-pow, ← pow-add, div-add-mod')
 
 -- a turn of square and multiply: the last bit of the exponent goes into the result, and the base is squared

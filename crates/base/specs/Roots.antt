@@ -3,10 +3,9 @@
 --
 -- Main definitions: `Root`.
 -- Main statements: `root-whole` (w ^ N is 1), `root-powers` (its powers below N are distinct), `root-inverse`, `unit-cancels` (a factor with k ^ (p - 1) = 1 cancels).
-use mathlib.Core.Path.{_≡_, refl, sym, ap, _∙_}
-use mathlib.Core.Logic.{_≢_}
-use Prim.Native.Nat.{ℕ, zero, suc, _+_, _*_, _-_, _/_, _%_, _^_, _≤_, _<_}
-use native.Mathlib.Nat.{mul-comm, mul-one, one-mul, mul-add-mod-self-left, mod-eq-of-lt, pow-zero, pow-suc, pow-succ'}
+use mathlib.Core.Path.{_≡_, sym, _∙_}
+use Prim.Native.Nat.{ℕ, zero, suc, _+_, _*_, _-_, _/_, _%_, _^_, _<_}
+use native.Mathlib.Nat.{mul-comm, mul-one, one-mul, mul-add-mod-self-left, mod-eq-of-lt, pow-suc, pow-succ'}
 use native.Mathlib.Decide.{ℕ-discrete, decLt}
 use native.Mathlib.Omega.{arith}
 use lib.Pow.{pow-add}

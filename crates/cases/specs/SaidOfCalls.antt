@@ -3,8 +3,7 @@
 --
 -- Main definition: `SaidOfCalls`. Main statement: `calls-say`.
 use mathlib.Core.Path.{_≡_, refl, sym, ap, _∙_}
-use mathlib.Core.Logic.{_≢_}
-use mathlib.Core.List.{List, [], _∷_}
+use mathlib.Core.List.{[], _∷_}
 use Prim.Native.Nat.{ℕ, _-_}
 use native.Mathlib.Omega.{arith}
 use Rattle.base.specs.Exponent.{exponentFrom}
@@ -21,7 +20,7 @@ use Rattle.parameters.specs.declared.parameters.Parameters.{Parameters}
 use Rattle.tree.specs.Plan.{zeroPlan, wordsNumber, planNumber, planAnswer}
 use Rattle.tree.specs.declared.plan.Plan.{Plan}
 use Rattle.tree.specs.declared.planning.Planned.{Planned}
-use Rattle.pieces.specs.Setting.{Setting, State, Store, stands}
+use Rattle.pieces.specs.Setting.{Setting, Store, stands}
 use Rattle.pieces.specs.Records.{readBy, rowsOf, firstFault, allBelow}
 use Rattle.pieces.specs.Opening.{roomToOpen, openNumber, openStore, fresh}
 use Rattle.pieces.specs.Rows.{rowFault, rowsNumber}

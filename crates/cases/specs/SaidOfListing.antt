@@ -23,7 +23,7 @@ use Rattle.pieces.specs.Writing.{put, padded, putLines}
 use Rattle.pieces.specs.Opening.{roomToOpen, openNumber, fresh}
 use Rattle.pieces.specs.Rows.{rowFault, rowsNumber, rowLines, rowsWritten, marked}
 use Rattle.pieces.specs.SWords.{sWordFault, sWordsNumber, sWordsWritten}
-use Rattle.pieces.specs.Cells.{placeholder, cellFault, cellsNumber, roomForCells, firstSeen, seenAgain, placeCell, cellsRun}
+use Rattle.pieces.specs.Cells.{cellFault, cellsNumber, roomForCells, firstSeen, seenAgain, placeCell, cellsRun}
 use Rattle.pieces.specs.Tables.{tableFault, tablesNumber, entries, tableLines, tablesWritten, sumRows}
 use Rattle.pieces.specs.Finishing.{everyFrom, complete, allUsed, variableFine, scratchFine, finishNumber, writeBack, finishFrom}
 use Rattle.pieces.specs.Calls.{Call, rows, sWords, cellWords, tableWords, finishing, number, taken, after, run}
@@ -31,7 +31,6 @@ use Rattle.pieces.specs.Whole.{Circuit}
 use Rattle.columns.specs.Intake.{labelsOf}
 use Rattle.claim.specs.Statement.{Names, Keeps, Agrees, Leads, Reaches, Gap, Before, Permutation, product, RowOf, Right}
 use Rattle.claim.specs.Model.{circuitBy, FinishesBy}
-use Rattle.claim.specs.Theorem.{claim}
 use Rattle.program.specs.Program.{lent}
 use Rattle.cases.specs.Columns.{settingWith, one, two}
 use Rattle.cases.specs.Listed.{parameters, gates, plan-number, plan, tree, plan-known, path-is, found-number, left}

@@ -12,7 +12,7 @@ use lib.Dec.{ltb}
 use lib.ListN.{length}
 use borrow.Author.Tests.{ltb-true, ltb-false}
 use Rattle.base.specs.Tables.{table-length, table-at}
-use Rattle.labels.specs.Ranges.{some-row}
+use Rattle.labels.specs.RangesLaws.{some-row}
 use Rattle.labels.specs.Labels.{searchNumber, representativesNumber, representativesOf, labelOf}
 use Rattle.labels.specs.LabelLaws.{DistinctLabels, distinct-labels, search-cosets}
 use Rattle.selector.specs.Tree.{Tree}

@@ -6,7 +6,8 @@ use Prim.Native.Nat.{ℕ, suc, _+_, _-_, _≤_, _<_}
 use native.Mathlib.Numerals.{add-one}
 use native.Mathlib.Omega.{arith}
 use lib.ListN.{length, getD, set, take, drop, length-drop}
-use Rattle.pieces.specs.Records.{Read, whole, rowSize, front, rowsOf, firstFault}
+use Rattle.pieces.specs.Records.{Read, whole, rowSize, rowsOf, firstFault}
+use Rattle.pieces.specs.Front.{front}
 use Rattle.pieces.specs.Rows.{rowFault, rowsFault, marked}
 use Rattle.pieces.specs.RecordLaws.{Rest, fault-here, fault-later, read-fuel, rest-whole, rest-done, rest-front}
 use Rattle.pieces.specs.FaultLaws.{RowFine, row-good, rows-own-same}

@@ -13,7 +13,8 @@ use lib.Seq.{length-take-le, getD-take}
 use borrow.Author.Tests.{eq-eqb, ne-eqb, eqb-true, lt-ltb}
 use lib.ListN.{length}
 use Rattle.base.specs.Firsts.{first-zero}
-use Rattle.labels.specs.Ranges.{Ranges, ranges-fit, rangesFit}
+use Rattle.labels.specs.Ranges.{rangesFit}
+use Rattle.labels.specs.RangesLaws.{Ranges, ranges-fit}
 use Rattle.base.specs.Pick.{pick, pick-zero}
 use Rattle.selector.specs.Gates.{gateWords, kindOf, degreeOf, constantsWord, constantsOf}
 use Rattle.selector.specs.Tree.{Tree, depth, standing}

@@ -27,7 +27,7 @@ use Rattle.tree.specs.declared.plan.Plan.{Plan}
 use Rattle.encoding.specs.Encoding.{handed, headWords, intakeAt, intakeOf, intakeWords, lookupFits, parametersAt, planAt, planLength, planOf, planWords, progressOf, progressWords, progressed, stateLength, tailWords, zeroIntake}
 
 -- ---- the lookup mode
-pub fits-each : (l : LookupParameters) → lookupFits (modeOf l) (widthOf l) (flagOf (shareOf l)) ≡ true
+fits-each : (l : LookupParameters) → lookupFits (modeOf l) (widthOf l) (flagOf (shareOf l)) ≡ true
 unfolding lookupFits
 fits-each NoLookup = refl
 fits-each (TableIdAsVariable w true) = refl
@@ -39,7 +39,7 @@ fits-each (UseSpecializedColumnsWithTableIdAsVariable w false) = refl
 fits-each (UseSpecializedColumnsWithTableIdAsConstant w true) = refl
 fits-each (UseSpecializedColumnsWithTableIdAsConstant w false) = refl
 
-pub lookup-back : (q : Plan) → lookupOf (parametersOf q) ≡ q .lookup
+lookup-back : (q : Plan) → lookupOf (parametersOf q) ≡ q .lookup
 unfolding lookupOf
 lookup-back q = by (q .lookup)
   where
@@ -284,7 +284,7 @@ module _ (s : Intake) (old : List ℕ) (g : length (s .plan .gates) ≡ 384) (n 
           progressed-short (progressOf s) old h ∙ handed-short (intakeWords s) old k
 
 -- ---- what the reading functions answer
-pub paste-all : (xs old : List ℕ) → length xs ≡ length old → paste old 0 xs (length xs) ≡ xs
+paste-all : (xs old : List ℕ) → length xs ≡ length old → paste old 0 xs (length xs) ≡ xs
 paste-all xs old e =
     ap (λ (k : ℕ). take (length xs) xs ++ drop k old) (zero-add (length xs))
     ∙ ap (λ (l : List ℕ). l ++ drop (length xs) old) (take-length xs) ∙ ap (λ (k : ℕ). xs ++ drop k old) e ∙ ap (λ (l : List ℕ). xs ++ l) (drop-length old) ∙ append-nil xs
@@ -428,7 +428,7 @@ module _ (ws : List ℕ) (e : length ws ≡ planLength) (f : lookupFits (getD ws
       (word-again ws 3 _ (omega arith) (word-again ws 4 _ (omega arith) (word-again ws 5 _ (omega arith) (word-again ws 6 _ (omega arith) (word-again ws 7 _ (omega arith) parts-again))))))))
 
 -- encoding what was decoded gives the words, where the plan has no fault
-pub sound-again : (ws : List ℕ) → planFault (planOf ws) ≡ 0 → planWords (planOf ws) ≡ ws
+sound-again : (ws : List ℕ) → planFault (planOf ws) ≡ 0 → planWords (planOf ws) ≡ ws
 sound-again ws z = by (ℕ-discrete (length ws) planLength) (lookupFits (getD ws 5 0) (getD ws 6 0) (getD ws 7 0)) refl
   where
     by : Dec (length ws ≡ planLength) → (t : Bool) → lookupFits (getD ws 5 0) (getD ws 6 0) (getD ws 7 0) ≡ t → planWords (planOf ws) ≡ ws

@@ -1,7 +1,7 @@
 -- What the layers above use of the field.
 --
 -- Main statements: `squared-root` and `domain-root` (the generator squared 32 - e times is a root of 2 ^ e: by the laws of `base`'s Roots its power to
--- 2 ^ e is 1, the one to half of that p - 1, and its powers below 2 ^ e are distinct), `non-residue-unit` (a non-residue cancels), `fmul-below`, `fpow-below`.
+-- 2 ^ e is 1, the one to half of that p - 1, and its powers below 2 ^ e are distinct), `non-residue-unit` (a non-residue cancels), `fmul-below`.
 use mathlib.Core.Path.{_≡_, _∙_, subst}
 use mathlib.Core.Bool.{true}
 use Prim.Native.Nat.{ℕ, zero, suc, _+_, _-_, _*_, _/_, _%_, _^_, _≤_, _<_}
@@ -17,17 +17,13 @@ use Rattle.field.specs.Numerals.{generator-half}
 pub fmul-below : (a b : ℕ) → fmul a b < p
 fmul-below a b = mod-lt (a * b) (omega arith)
 
-pub fpow-below : (b e : ℕ) → fpow b e < p
-unfolding fpow
-fpow-below b e = mod-lt (b ^ e) (omega arith)
-
 -- a root stays one when it is taken modulo p
 root-mod : (e w : ℕ) → Root p e w → Root p e (w % p)
 root-mod zero w h = mod-mod w p ∙ h
 root-mod (suc m) w h = pow-mod w (2 ^ m) p ∙ h
 
 -- squared k times, a root of 2 ^ (k + e) is a root of 2 ^ e
-pub squared-root : (k e w : ℕ) → Root p (k + e) w → Root p e (squared k w)
+squared-root : (k e w : ℕ) → Root p (k + e) w → Root p e (squared k w)
 unfolding squared
 squared-root zero e w h = let q : 0 + e ≡ e = omega arith in rw q at h
 squared-root (suc k) e w h =

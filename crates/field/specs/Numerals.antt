@@ -1,12 +1,11 @@
 -- The only file with facts about numerals: powers that antt computes by squaring, and 01's worked sums and products.
 --
--- Main statements: `power` (a power of two numerals is computed), `generator-is`, `generator-half`, `generator-whole`, `seven-non-residue`, P1 to P3.
+-- Main statements: `power` (a power of two numerals is computed), `generator-is`, `generator-half`, P1 to P3.
 use mathlib.Core.Path.{_≡_, refl, sym, ap, _∙_}
-use mathlib.Core.Bool.{true}
-use Prim.Native.Nat.{ℕ, _+_, _-_, _*_, _/_, _%_, _^_}
-use lib.Dec.{T, ltb, eqb, lit<}
+use Prim.Native.Nat.{ℕ, _+_, _-_, _^_}
+use lib.Dec.{T, ltb, lit<}
 use Rattle.base.specs.Powers.{fast, fast-is-power}
-use Rattle.field.specs.Field.{p, fadd, fmul, fpow, generator, isNonResidue}
+use Rattle.field.specs.Field.{p, fadd, fmul, fpow, generator}
 
 -- `power b e tt`: b to the power e, which antt computes on the right
 pub power : (b e : ℕ) → T (ltb e (2 ^ 64)) → fpow b e ≡ fast 64 b e p
@@ -21,14 +20,6 @@ generator-is = power 7 4294967295 tt
 pub generator-half : fpow generator (2 ^ 31) ≡ p - 1
 unfolding fast
 generator-half = ap (λ (g : ℕ). fpow g (2 ^ 31)) generator-is ∙ power 1753635133440165772 2147483648 tt
-
-pub generator-whole : fpow generator (2 ^ 32) ≡ 1
-unfolding fast
-generator-whole = ap (λ (g : ℕ). fpow g (2 ^ 32)) generator-is ∙ power 1753635133440165772 4294967296 tt
-
-pub seven-non-residue : isNonResidue 7 ≡ true
-unfolding fast
-seven-non-residue = ap (λ (x : ℕ). eqb x (p - 1)) (power 7 9223372034707292160 tt)
 
 -- 01's worked cases on the field
 pub record Worked : Type 0 where

@@ -7,7 +7,6 @@ use mathlib.Core.Path.{_≡_, sym, ap, _∙_}
 use mathlib.Core.List.{List}
 use Prim.Native.Nat.{ℕ, zero, suc, _+_, _-_, _*_, _/_, _%_, _^_, _≤_, _<_}
 use native.Mathlib.Nat.{mul-le-mul-right, one-mul, mod-mod, mod-eq-of-lt, div-eq-of-lt, pow-zero, pow-suc}
-use native.Mathlib.Numerals.{add-one}
 use native.Mathlib.Omega.{arith}
 use lib.Arith.{digits-mod, digits-div}
 use lib.Pow.{pow-add}
@@ -71,11 +70,11 @@ powers-more n i m x y h first more = filled-same (scaledFrom (rootPower n i) i x
         let e : i + (k - i) ≡ k = omega arith in
         ap (fmul (rootPower n i)) (first (k - i) (omega arith)) ∙ sym (power-both n i (k - i)) ∙ ap (rootPower n) e
 
-pub label-first : (n : ℕ) (reps : List ℕ) (i : ℕ) → i < n → getD reps 0 0 ≡ 1 → rootPower n i ≡ labelOf n reps i
+label-first : (n : ℕ) (reps : List ℕ) (i : ℕ) → i < n → getD reps 0 0 ≡ 1 → rootPower n i ≡ labelOf n reps i
 unfolding labelOf fpow
 label-first n reps i h e = rw (div-eq-of-lt h, mod-eq-of-lt h, e, one-mul, mod-mod)
 
-pub label-column : (n : ℕ) (reps : List ℕ) (column i : ℕ) → column * n ≤ i → i < column * n + n
+label-column : (n : ℕ) (reps : List ℕ) (column i : ℕ) → column * n ≤ i → i < column * n + n
     → fmul (getD reps column 0) (rootPower n (i - column * n)) ≡ labelOf n reps i
 unfolding labelOf
 label-column n reps column i h l =

@@ -1,30 +1,29 @@
 -- What the layers above use of labels.
 --
 -- Main definition: `DistinctLabels` (below p, nonzero, pairwise distinct).
--- Main statements: `domain-whole` (w ^ N is 1); `distinct-labels`, for any list of representatives that are `Cosets` of base; `search-cosets` (01's search gives such a
--- list); for the words that `labelsWritten` puts down: `written-is`, `written-refused`, `written-length`, `written-label`, `written-rest`, `written-distinct`.
+-- Main statements: `distinct-labels`, for any list of representatives that are `Cosets` of base; `search-cosets` (01's search gives such a
+-- list); for the words that `labelsWritten` puts down: `written-is`, `written-refused`.
 use mathlib.Core.Path.{_≡_, sym, ap, _∙_, subst}
 use mathlib.Core.Logic.{_≢_}
 use mathlib.Core.Bool.{true}
 use mathlib.Core.List.{List, _++_}
 use Prim.Native.Nat.{ℕ, _+_, _-_, _*_, _/_, _%_, _^_, _≤_, _<_}
 use native.Mathlib.Nat.{mod-lt, div-add-mod, div-lt-iff-lt-mul}
-use native.Mathlib.Decide.{ℕ-discrete, decLt}
+use native.Mathlib.Decide.{decLt}
 use native.Mathlib.Omega.{arith}
-use lib.Dec.{leb}
-use lib.ListN.{length, getD, drop, replicate, length-append, length-drop, List·getD-append}
-use lib.Seq.{getD-append-add, getD-drop}
-use borrow.Author.Tests.{lt-ltb, le-leb, eq-eqb, ne-eqb, leb-true}
+use lib.ListN.{length, getD, drop, replicate, List·getD-append}
+use borrow.Author.Tests.{lt-ltb, le-leb, eq-eqb, ne-eqb}
 use Rattle.base.specs.Pick.{pick, pick-zero}
 use Rattle.base.specs.Exponent.{exponent}
-use Rattle.base.specs.Tables.{table, table-length, table-at}
+use Rattle.base.specs.Tables.{table}
 use Rattle.base.specs.Modular.{mul-mod}
-use Rattle.base.specs.Roots.{Root, root-whole}
+use Rattle.base.specs.Roots.{Root}
 use Rattle.base.specs.Cosets.{Cosets, coset-apart, coset-nonzero}
 use Rattle.field.specs.Field.{p, fpow}
 use Rattle.field.specs.FieldLaws.{domain-root, fmul-below}
-use Rattle.labels.specs.Refusals.{outOfRange, candidatesReachP, bufferTooShort}
-use Rattle.labels.specs.Ranges.{rangesFit, Ranges, ranges-fit, some-row, mostColumns}
+use Rattle.labels.specs.Refusals.{outOfRange, candidatesReachP}
+use Rattle.labels.specs.Ranges.{rangesFit, mostColumns}
+use Rattle.labels.specs.RangesLaws.{Ranges, ranges-fit, some-row}
 use Rattle.labels.specs.Labels.{domainGenerator, found, searchNumber, padded, representativesNumber, representativesOf, labelOf, labelNumber, labelAnswer, fillNumber, labelsWritten}
 use Rattle.labels.specs.Search.{found-chosen}
 
@@ -38,17 +37,12 @@ generator-root : (n c : ℕ) → Ranges n c → Root p (exponent n) (domainGener
 unfolding domainGenerator
 generator-root n c r = domain-root (exponent n) (omega (arith, r .low))
 
--- w ^ N is 1
-pub domain-whole : (n c : ℕ) → Ranges n c → fpow (domainGenerator n) n ≡ 1
-unfolding fpow
-domain-whole n c r = rw (r .power) at (root-whole p (omega arith) (exponent n) (domainGenerator n) (generator-root n c r))
-
 -- a label as a product with a plain power
 label-product : (n : ℕ) (reps : List ℕ) (cell : ℕ) → labelOf n reps cell ≡ getD reps (cell / n) 0 * domainGenerator n ^ (cell % n) % p
 unfolding labelOf fpow
 label-product n reps cell = mul-mod (getD reps (cell / n) 0) (domainGenerator n ^ (cell % n)) p
 
-pub label-below : (n : ℕ) (reps : List ℕ) (cell : ℕ) → labelOf n reps cell < p
+label-below : (n : ℕ) (reps : List ℕ) (cell : ℕ) → labelOf n reps cell < p
 unfolding labelOf
 label-below n reps cell = fmul-below (getD reps (cell / n) 0) (fpow (domainGenerator n) (cell % n))
 
@@ -104,7 +98,7 @@ pub record AcceptedSearch (n c : ℕ) : Type 0 where
   pub enough : c ≤ length (found n c .values)
   pub answer : representativesOf n c ≡ padded (found n c .values)
 
-pub accepted-search : (n c : ℕ) → representativesNumber n c ≡ 0 → AcceptedSearch n c
+accepted-search : (n c : ℕ) → representativesNumber n c ≡ 0 → AcceptedSearch n c
 unfolding representativesNumber representativesOf
 accepted-search n c z =
     let q = pick-zero (rangesFit n c) (searchNumber n c) outOfRange (omega arith) z in
@@ -165,63 +159,6 @@ module _ (n c : ℕ) (copies : List ℕ) where
   unfolding labelsWritten
   written-refused h = rw (ne-eqb (fillNumber n c copies) 0 h)
 
-  module _ (fine : fillNumber n c copies ≡ 0) where
-    fill-tests : (rangesFit n c ≡ true) × (c * n ≤ length copies) × (searchNumber n c ≡ 0)
-    unfolding fillNumber
-    fill-tests =
-        let q = pick-zero (rangesFit n c) (pick (leb (c * n) (length copies)) (searchNumber n c) bufferTooShort) outOfRange (omega arith) fine in
-        let t = pick-zero (leb (c * n) (length copies)) (searchNumber n c) bufferTooShort (omega arith) (q .1) in
-        (q .0, leb-true (c * n) (length copies) (t .0), t .1)
-
-    -- an accepted filling has its representatives
-    pub fill-search : representativesNumber n c ≡ 0
-    unfolding representativesNumber
-    fill-search = rw (fill-tests .0) (fill-tests .2)
-
-    pub fill-room : c * n ≤ length copies
-    fill-room = fill-tests .1
-
-    pub written-is : labelsWritten n c copies ≡ table (c * n) (labelOf n (representativesOf n c)) ++ drop (c * n) copies
-    unfolding labelsWritten
-    written-is = rw (eq-eqb (fillNumber n c copies) 0 fine)
-
-    pub written-label : (i : ℕ) → i < c * n → getD (labelsWritten n c copies) i 0 ≡ labelOf n (representativesOf n c) i
-    written-label i h =
-        let t = table (c * n) (labelOf n (representativesOf n c)) in
-        ap (λ (l : List ℕ). getD l i 0) written-is
-        ∙ List·getD-append t (drop (c * n) copies) 0 i (omega (arith, table-length (c * n) (labelOf n (representativesOf n c))))
-        ∙ table-at (c * n) (labelOf n (representativesOf n c)) i h
-
-    pub written-distinct : DistinctLabels (c * n) (labelsWritten n c copies)
-    written-distinct =
-        distinct-labels n c (accepted-search n c fill-search .ranges) (representativesOf n c) (search-cosets n c fill-search) (labelsWritten n c copies) written-label
-
-    accepted-length : length (labelsWritten n c copies) ≡ length copies
-    accepted-length = rw (written-is, length-append, table-length, length-drop) (omega (arith, fill-room))
-
-    accepted-rest : (i : ℕ) → c * n ≤ i → getD (labelsWritten n c copies) i 0 ≡ getD copies i 0
-    accepted-rest i h =
-        let t = table (c * n) (labelOf n (representativesOf n c)) in
-        let e : i ≡ length t + (i - c * n) = omega (arith, table-length (c * n) (labelOf n (representativesOf n c))) in
-        let q : c * n + (i - c * n) ≡ i = omega arith in
-        ap (λ (l : List ℕ). getD l i 0) written-is
-        ∙ ap (λ (j : ℕ). getD (t ++ drop (c * n) copies) j 0) e
-        ∙ getD-append-add t (drop (c * n) copies) (i - c * n) 0
-        ∙ getD-drop (c * n) copies (i - c * n) 0
-        ∙ ap (λ (j : ℕ). getD copies j 0) q
-
-  -- accepted or refused, the length stays
-  pub written-length : length (labelsWritten n c copies) ≡ length copies
-  written-length = go (ℕ-discrete (fillNumber n c copies) 0)
-    where
-      go : Dec (fillNumber n c copies ≡ 0) → length (labelsWritten n c copies) ≡ length copies
-      go (yes z) = accepted-length z
-      go (no d) = ap length (written-refused d)
-
-  -- accepted or refused, the words past the columns stay
-  pub written-rest : (i : ℕ) → c * n ≤ i → getD (labelsWritten n c copies) i 0 ≡ getD copies i 0
-  written-rest i h = go (ℕ-discrete (fillNumber n c copies) 0)
-    where
-      go : Dec (fillNumber n c copies ≡ 0) → getD (labelsWritten n c copies) i 0 ≡ getD copies i 0
-      go (yes z) = accepted-rest z i h
-      go (no d) = ap (λ (l : List ℕ). getD l i 0) (written-refused d)
+  pub written-is : fillNumber n c copies ≡ 0 → labelsWritten n c copies ≡ table (c * n) (labelOf n (representativesOf n c)) ++ drop (c * n) copies
+  unfolding labelsWritten
+  written-is fine = rw (eq-eqb (fillNumber n c copies) 0 fine)

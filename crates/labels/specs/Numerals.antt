@@ -32,7 +32,7 @@ fastTest k = eqb (fast 64 k 9223372034707292160 p) (p - 1)
 abbrev fastFound : ℕ → ℕ → Columns
 fastFound n c = searchFrom fastTest (λ k. fast 64 k n p) (p - 2) c 2 firstColumn
 
-pub found-computes : (n c : ℕ) → T (ltb n (2 ^ 64)) → found n c ≡ fastFound n c
+found-computes : (n c : ℕ) → T (ltb n (2 ^ 64)) → found n c ≡ fastFound n c
 unfolding found
 found-computes n c h =
     search-same isNonResidue fastTest (λ k. fpow k n) (λ k. fast 64 k n p)

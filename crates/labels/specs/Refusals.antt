@@ -1,4 +1,4 @@
--- 01, 'When a call is turned down': the numbers that labels give. The layers above give them too, by these names.
+-- 01, 'When a call is turned down': the numbers that labels give.
 --
 -- Main definitions: `outOfRange`, `candidatesReachP`, `bufferTooShort`.
 use Prim.Native.Nat.{ℕ}

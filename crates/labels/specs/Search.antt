@@ -56,7 +56,7 @@ module _ (x : ℕ) (ws : List ℕ) (i : ℕ) where
   absent-step h = ap (absent x) (drop-one ws i h)
 
 -- a word that is absent is none of the words
-pub absent-apart : (x : ℕ) (ws : List ℕ) (i : ℕ) → absent x ws ≡ true → i < length ws → getD ws i 0 ≢ x
+absent-apart : (x : ℕ) (ws : List ℕ) (i : ℕ) → absent x ws ≡ true → i < length ws → getD ws i 0 ≢ x
 unfolding absent
 absent-apart x [] i a h q = absurd (not-suc-le-zero h)
 absent-apart x (w ∷ ws) i a h q = go (ℕ-discrete x w) i h q (absent-apart x ws)

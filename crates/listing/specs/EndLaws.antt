@@ -15,7 +15,8 @@ use borrow.Author.Tests.{le-leb, lt-leb, eq-eqb, ne-eqb}
 use Rattle.selector.specs.Gates.{gateWords}
 use Rattle.pieces.specs.Records.{rowSize, tableSize}
 use Rattle.listing.specs.Listing.{parameterWords}
-use Rattle.listing.specs.Ends.{endOf, longAt, fixedEnd, recordsEnd, part, sectionOf, sectionsAt, judged, listingFrom}
+use Rattle.listing.specs.Ends.{endOf, longAt, fixedEnd, recordsEnd, part, sectionsAt, judged, listingFrom}
+use Rattle.listing.specs.Places.{sectionOf}
 use Rattle.listing.specs.declared.sections.Part.{Part}
 use Rattle.listing.specs.declared.sections.Section.the-variants.{Found, Missing}
 use Rattle.listing.specs.declared.sections.Listing.the-variants.{Whole, Refused}

@@ -1,22 +1,20 @@
 -- 01, 'Listing', once more: where each section ends. The contracts are stated by these definitions; `ReaderLaws` proves that the words at these places are those
 -- that the reader of `Listing` gives.
 --
--- Main definitions: `fixedEnd`, `recordsEnd` (where a section ends), `sectionOf`, `listingFrom` (the places of the sections, or refusal 20), `wordsAt`, `partsOf` (the words at these places).
+-- Main definitions: `fixedEnd`, `recordsEnd` (where a section ends), `listingFrom` (the places of the sections, or refusal 20).
 --
 -- All numbers are whole numbers, so nothing wraps. A word past the end counts as 0: each count and each record's head stands before the place where its section ends,
 -- so a listing with a word missing ends past its last word, and just the whole ones end where the words end.
 use mathlib.Core.List.{List}
 use Prim.Native.Nat.{ℕ, zero, suc, _+_, _-_, _*_}
-use lib.ListN.{length, getD, take, drop}
-use lib.Dec.{leb, eqb}
+use lib.ListN.{length, getD}
+use lib.Dec.{eqb}
 use Rattle.base.specs.Pick.{pick}
 use Rattle.selector.specs.Gates.{gateWords}
 use Rattle.pieces.specs.Records.{rowSize, tableSize}
-use Rattle.listing.specs.Listing.{Words, Reading, whole, refused, parameterWords}
+use Rattle.listing.specs.Listing.{parameterWords}
 use Rattle.listing.specs.declared.sections.Part.{Part}
 use Rattle.listing.specs.declared.sections.Sections.{Sections}
-use Rattle.listing.specs.declared.sections.Section.{Section}
-use Rattle.listing.specs.declared.sections.Section.the-variants.{Found, Missing}
 use Rattle.listing.specs.declared.sections.Listing.{Listing}
 use Rattle.listing.specs.declared.sections.Listing.the-variants.{Whole, Refused}
 
@@ -39,10 +37,6 @@ recordsEnd size xs at = endOf (longAt size xs) (getD xs at 0) (at + 1)
 -- a section's words: after the count, up to the next section
 abbrev pub part : ℕ → ℕ → Part
 part count end = record { start = count + 1; len = end - (count + 1) }
-
--- the section between a count and an end, if there are so many words
-abbrev pub sectionOf : ℕ → ℕ → ℕ → Section
-sectionOf words count end = pick (leb end words) (Found (part count end)) Missing
 
 -- the six, from the places of their counts and the end
 abbrev pub sectionsAt : ℕ → ℕ → ℕ → ℕ → ℕ → ℕ → ℕ → Sections
@@ -70,24 +64,3 @@ listingFrom xs at =
     let c = fixedEnd 1 xs s in
     let t = fixedEnd 1 xs c in
     judged xs at g r s c t (recordsEnd tableSize xs t)
-
--- the words that stand at a section's place
-abbrev pub cut : List ℕ → Part → List ℕ
-cut xs p = take (p .len) (drop (p .start) xs)
-
--- and at the places of all six
-abbrev pub wordsAt : List ℕ → Sections → Words
-wordsAt xs s =
-    record {
-      parameters = cut xs (s .parameters);
-      gates = cut xs (s .gates);
-      rows = cut xs (s .rows);
-      sWords = cut xs (s .«s_words»);
-      cells = cut xs (s .cells);
-      tables = cut xs (s .tables);
-    }
-
--- what an answer of the code says: the words at its places, or its refusal
-abbrev pub partsOf : List ℕ → Listing → Reading
-partsOf xs (Whole s) = whole (wordsAt xs s)
-partsOf xs (Refused n) = refused n

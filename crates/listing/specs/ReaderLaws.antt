@@ -1,7 +1,7 @@
 -- The reader of `Listing` and the places of `Ends` say the same.
 --
 -- Main statements: `listing-read` (the words at the places that the code answers are those that the reader gives, refusal for refusal); from it `read-whole` and `read-refused` (what a caller
--- knows after each of the code's answers), `refused-back`; `only-twenty` (no other refusal), `read-eight` (the parameters are eight words).
+-- knows after each of the code's answers), `refused-back`; `read-eight` (the parameters are eight words).
 use mathlib.Core.Path.{_≡_, refl, sym, ap, _∙_}
 use mathlib.Core.Logic.{_≢_}
 use mathlib.Core.List.{List, _++_}
@@ -18,7 +18,8 @@ use Rattle.base.specs.Drops.{drop-none, drop-one}
 use Rattle.selector.specs.Gates.{gateWords}
 use Rattle.pieces.specs.Records.{rowSize, tableSize}
 use Rattle.listing.specs.Listing.{Taken, off, after, records, section, fixed, headed, parameterWords, Words, eight, ended, sixSections, whole, refused, orTwenty, read}
-use Rattle.listing.specs.Ends.{endOf, longAt, fixedEnd, recordsEnd, sectionsAt, listingFrom, wordsAt, partsOf}
+use Rattle.listing.specs.Ends.{endOf, longAt, fixedEnd, recordsEnd, sectionsAt, listingFrom}
+use Rattle.listing.specs.Places.{wordsAt, partsOf}
 use Rattle.listing.specs.declared.sections.Sections.{Sections}
 use Rattle.listing.specs.declared.sections.Listing.{Listing}
 use Rattle.listing.specs.declared.sections.Listing.the-variants.{Whole, Refused}
@@ -254,14 +255,6 @@ module _ (xs : List ℕ) where
       go : (l : Listing) → partsOf xs l ≡ refused n → l ≡ Refused n
       go (Whole s) h = absurd (let z : _≡_ {A = ℕ} 0 1 = cc in omega arith)
       go (Refused m) h = let k : m ≡ n = cc in ap Refused k
-
-  pub only-twenty : (n : ℕ) → read xs ≡ refused n → n ≡ 20
-  unfolding read
-  only-twenty n q = go (sixSections xs) q
-    where
-      go : (o : Option Words) → orTwenty o ≡ refused n → n ≡ 20
-      go none h = let k : _≡_ {A = ℕ} 20 n = cc in sym k
-      go (some w) h = absurd (let z : _≡_ {A = ℕ} 0 1 = cc in omega arith)
 
   pub read-eight : (w : Words) → read xs ≡ whole w → length (w .parameters) ≡ parameterWords
   read-eight w q = go (ℕ-discrete (g - 1) parameterWords) (ℕ-discrete e (length xs))

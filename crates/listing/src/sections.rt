@@ -5,7 +5,8 @@ ghost use Prim.Native.Nat.{_*_};
 ghost use lib.ListN.{length};
 ghost use lib.Dec.{leb};
 ghost use Rattle.pieces.specs.Records.{rowSize, tableSize};
-ghost use Rattle.listing.specs.Ends.{sectionOf, fixedEnd, recordsEnd, listingFrom};
+ghost use Rattle.listing.specs.Ends.{fixedEnd, recordsEnd, listingFrom};
+ghost use Rattle.listing.specs.Places.{sectionOf};
 
 // A section's words: where they begin in the listing, after their count, and how many they are.
 pub struct Part {

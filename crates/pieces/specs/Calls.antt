@@ -5,7 +5,7 @@ use mathlib.Core.List.{List, [], _∷_}
 use Prim.Native.Nat.{ℕ}
 use lib.Dec.{eqb}
 use Rattle.base.specs.Pick.{pick}
-use Rattle.pieces.specs.Setting.{Setting, State, Store, Held, cols}
+use Rattle.pieces.specs.Setting.{Setting, Held, cols}
 use Rattle.pieces.specs.Rows.{rowsNumber, rowsWritten, rowsState}
 use Rattle.pieces.specs.SWords.{sWordsNumber, sWordsWritten, sWordsState}
 use Rattle.pieces.specs.Cells.{cellsNumber, cellsWritten, cellsState}

@@ -15,13 +15,17 @@ use lib.ListN.{length, getD, set, drop, length-set}
 use lib.Seq.{getD-set-other, set-getD}
 use lib.Dec.{ltb, eqb}
 use borrow.Author.Tests.{lt-ltb, le-ltb, eq-eqb, ne-eqb, ltb-true}
-use Rattle.base.specs.Pick.{pick, pick-zero, both-true}
+use Rattle.base.specs.Pick.{pick, both-true}
 use Rattle.base.specs.Drops.{drop-none, drop-one}
 use Rattle.field.specs.Field.{p}
 use Rattle.pieces.specs.Setting.{Cols, cols}
-use Rattle.pieces.specs.Cells.{placeholder, indexOf, cellFault, cellsFault, value, first, firstSeen, seenAgain, placeCell, cellsRun}
+use Rattle.pieces.specs.Cells.{placeholder, indexOf, cellFault, cellsFault, value, firstSeen, seenAgain, placeCell, cellsRun}
 use Rattle.pieces.specs.Finishing.{everyFrom, variableFine, writeBack, finishFrom}
 use Rattle.pieces.specs.RecordLaws.{fault-head}
+
+-- a variable's first cell
+abbrev pub first : Cols → ℕ → ℕ
+first s v = getD (s .scratch) (2 * v + 1) 0
 
 -- ---- one cell word, by its three cases
 pub place-skip : (k w : ℕ) (s : Cols) → placeholder ≤ w → placeCell k w s ≡ s

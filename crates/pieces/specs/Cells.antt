@@ -37,9 +37,6 @@ cellsNumber x s ws b =
 abbrev pub value : Cols → ℕ → ℕ
 value s v = getD (s .scratch) (2 * v) 0
 
-abbrev pub first : Cols → ℕ → ℕ
-first s v = getD (s .scratch) (2 * v + 1) 0
-
 -- "An unseen variable stores the label and cell": the word that stands in the cell, and the cell's number
 unfoldable pub firstSeen : ℕ → ℕ → Cols → Cols
 firstSeen i v s = cols (s .copies) (set (set (s .scratch) (2 * v) (getD (s .copies) i 0)) (2 * v + 1) i)

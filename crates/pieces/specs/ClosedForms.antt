@@ -5,15 +5,14 @@
 -- section are kept), `good-rows`, `good-tables`, `good-cells` (what an accepted record is), `fresh-consts`, `fresh-tabled` (after opening).
 use mathlib.Core.Path.{_≡_, refl, sym, ap, _∙_}
 use mathlib.Core.List.{List, [], _∷_, _++_, append-assoc}
-use mathlib.Core.Bool.{Bool, true, false}
+use mathlib.Core.Bool.{Bool}
 use Prim.Native.Nat.{ℕ, zero, suc, _+_, _-_, _*_, _≤_, _<_}
 use native.Mathlib.Nat.{add-zero, add-suc, suc-add}
 use native.Mathlib.Decide.{decLt}
 use native.Mathlib.Omega.{arith}
 use lib.ListN.{length, getD, drop, replicate, length-append, length-replicate, getD-replicate, List·getD-append, List·getD-eq-default}
 use lib.Seq.{getD-append-add}
-use Rattle.base.specs.Pick.{pick}
-use Rattle.pieces.specs.Setting.{Setting, constantRoom, copyRoom, specialRoom}
+use Rattle.pieces.specs.Setting.{Setting, constantRoom, specialRoom}
 use Rattle.pieces.specs.Records.{Read, whole, cut, readBy, rowSize, tableSize, rowsOf, tablesOf}
 use Rattle.pieces.specs.Writing.{put, putLines, cleared}
 use Rattle.pieces.specs.Rows.{rowFault, rowsFault, rowLine, rowLines}

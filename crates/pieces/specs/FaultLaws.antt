@@ -14,10 +14,11 @@ use borrow.Author.Tests.{lt-ltb, le-ltb, le-leb, lt-leb, eq-eqb, ne-eqb, ltb-tru
 use Rattle.base.specs.Pick.{pick, pick-zero}
 use Rattle.field.specs.Field.{p}
 use Rattle.pieces.specs.Setting.{mostTables}
-use Rattle.pieces.specs.Records.{Read, whole, cut, rowSize, tableSize, front, firstFault, allBelow}
+use Rattle.pieces.specs.Records.{Read, whole, cut, rowSize, tableSize, allBelow}
+use Rattle.pieces.specs.Front.{front}
 use Rattle.pieces.specs.Rows.{rowFault, rowsFault}
 use Rattle.pieces.specs.SWords.{sWordFault, sWordsFault}
-use Rattle.pieces.specs.Tables.{Stack, rowsIn, stackNext, tableFault, tablesFault, sumRows}
+use Rattle.pieces.specs.Tables.{Stack, stackNext, tableFault, tablesFault, sumRows}
 use Rattle.pieces.specs.RecordLaws.{fault-head, first-same, front-cut, front-whole}
 
 -- ---- rows

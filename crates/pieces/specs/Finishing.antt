@@ -8,7 +8,7 @@ use lib.ListN.{getD, set}
 use lib.Dec.{ltb, eqb}
 use Rattle.base.specs.Pick.{pick, both}
 use Rattle.field.specs.Field.{p}
-use Rattle.pieces.specs.Setting.{Setting, State, Cols, cols, copyRoom, specialRoom, isFinished, stands}
+use Rattle.pieces.specs.Setting.{Setting, State, Cols, copyRoom, specialRoom, isFinished, stands}
 use Rattle.pieces.specs.Cells.{roomForCells}
 
 -- the test holds of the m numbers from n on

@@ -2,16 +2,16 @@
 --
 -- Main definitions: `Stood`. Main statements: `stood`, and for each call what it means that it is accepted: `rows-accepted`, `words-accepted`, `cells-accepted`,
 -- `tables-accepted`, `finish-accepted`.
-use mathlib.Core.Path.{_≡_, refl, ap, _∙_}
+use mathlib.Core.Path.{_≡_}
 use mathlib.Core.Bool.{Bool, true, false}
 use mathlib.Core.List.{List}
-use Prim.Native.Nat.{ℕ, _+_, _*_, _≤_}
+use Prim.Native.Nat.{ℕ, _≤_}
 use native.Mathlib.Omega.{arith}
 use lib.ListN.{length}
 use lib.Dec.{leb, eqb}
 use borrow.Author.Tests.{leb-true, eqb-true}
 use Rattle.base.specs.Pick.{pick, both, pick-zero, both-true}
-use Rattle.pieces.specs.Setting.{Setting, State, Cols, constantRoom, copyRoom, scratchRoom, tableRoom, specialRoom, mostTables, isOpened, stands}
+use Rattle.pieces.specs.Setting.{Setting, State, Cols, constantRoom, copyRoom, tableRoom, specialRoom, mostTables, isOpened, stands}
 use Rattle.pieces.specs.Records.{rowsOf, tablesOf}
 use Rattle.pieces.specs.Rows.{rowsFault, rowsNumber}
 use Rattle.pieces.specs.SWords.{sWordsFault, sWordsNumber}

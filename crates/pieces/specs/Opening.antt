@@ -1,7 +1,7 @@
 -- 01, 'Columns by pieces': opening.
 --
 -- Main definitions: `openNumber`, `openStore`, `openState`, `zeroState`.
-use mathlib.Core.List.{List, _++_}
+use mathlib.Core.List.{_++_}
 use Prim.Native.Nat.{ℕ}
 use lib.ListN.{length, drop, replicate}
 use lib.Dec.{leb}

@@ -14,11 +14,12 @@ use native.Mathlib.Decide.{ℕ-discrete, decLe, decLt}
 use native.Mathlib.Omega.{arith}
 use lib.ListN.{length, getD, take, drop, length-drop, length-append}
 use lib.Seq.{length-take-le, drop-append-le, take-append-le, drop-drop, getD-drop}
-use lib.Dec.{ltb, leb, eqb}
+use lib.Dec.{ltb, leb}
 use borrow.Author.Tests.{lt-ltb, le-leb, lt-leb, ltb-true, eq-eqb, ne-eqb}
 use Rattle.base.specs.Pick.{pick, both-true}
 use Rattle.base.specs.Drops.{drop-none, drop-one, drop-two, drop-last}
-use Rattle.pieces.specs.Records.{Read, whole, cut, readBy, front, firstFault, allBelow}
+use Rattle.pieces.specs.Records.{Read, whole, cut, readBy, firstFault, allBelow}
+use Rattle.pieces.specs.Front.{front}
 
 -- ---- each of a list
 abbrev pub Each : {X : Type 0} → (X → Type 0) → List X → Type 0

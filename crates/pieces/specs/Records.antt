@@ -1,10 +1,10 @@
 -- 01, 'Columns by pieces': a piece as a list of records, and the first faulty one.
 --
--- Main definitions: `Read`, `readBy`, `front`, `rowsOf`, `tablesOf`, `firstFault`, `allBelow`.
+-- Main definitions: `Read`, `readBy`, `rowsOf`, `tablesOf`, `firstFault`, `allBelow`.
 use mathlib.Core.Bool.{Bool, true, false}
 use mathlib.Core.List.{List, [], _∷_}
-use Prim.Native.Nat.{ℕ, zero, suc, _-_, _*_}
-use lib.ListN.{length, getD, take, drop}
+use Prim.Native.Nat.{ℕ, zero, suc, _*_}
+use lib.ListN.{length, take, drop}
 use lib.Dec.{ltb, leb, eqb}
 use Rattle.base.specs.Pick.{pick}
 
@@ -22,15 +22,6 @@ readBy size (suc f) (a ∷ []) = cut ∷ []
 readBy size (suc f) (a ∷ (b ∷ ws)) =
     let rest = readBy size f (drop (size a b) ws) in
     pick (leb (size a b) (length ws)) (whole a b (take (size a b) ws) ∷ rest) (cut ∷ [])
-
--- the record at the front of some words, as a loop over a piece meets it
-unfoldable pub front : (ℕ → ℕ → ℕ) → List ℕ → Read
-front size ws =
-    pick (leb 2 (length ws))
-    (pick (leb (size (getD ws 0 0) (getD ws 1 0)) (length ws - 2))
-    (whole (getD ws 0 0) (getD ws 1 0) (take (size (getD ws 0 0) (getD ws 1 0)) (drop 2 ws)))
-    cut)
-    cut
 
 -- "rows (gate, number of constants, constants)"
 abbrev pub rowSize : ℕ → ℕ → ℕ

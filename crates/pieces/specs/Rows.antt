@@ -5,7 +5,7 @@ use mathlib.Core.List.{List, [], _∷_, _++_}
 use Prim.Native.Nat.{ℕ, suc, _+_}
 use lib.ListN.{length, set}
 use lib.Dec.{ltb, leb}
-use Rattle.base.specs.Pick.{pick, both}
+use Rattle.base.specs.Pick.{pick}
 use Rattle.field.specs.Field.{p}
 use Rattle.pieces.specs.Setting.{Setting, State, constantRoom, stands}
 use Rattle.pieces.specs.Records.{Read, whole, cut, rowsOf, firstFault, allBelow}

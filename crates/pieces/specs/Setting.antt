@@ -1,7 +1,7 @@
 -- 01, 'Columns by pieces': what a plan fixes for the columns, the state between calls, the lent buffers, and the test for a made-up state (19).
 --
 -- Main definitions: `Setting`, `State`, `Store`, `Held`, the four rooms, `stands`.
-use mathlib.Core.Bool.{Bool, true, false}
+use mathlib.Core.Bool.{Bool}
 use mathlib.Core.List.{List}
 use Prim.Native.Nat.{ℕ, _+_, _*_}
 use lib.Dec.{leb, eqb}

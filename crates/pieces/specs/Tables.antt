@@ -6,7 +6,7 @@ use mathlib.Core.List.{List, [], _∷_, _++_}
 use Prim.Native.Nat.{ℕ, zero, suc, _+_}
 use lib.ListN.{length, drop}
 use lib.Dec.{ltb, leb, eqb}
-use Rattle.base.specs.Pick.{pick, both}
+use Rattle.base.specs.Pick.{pick}
 use Rattle.field.specs.Field.{p}
 use Rattle.pieces.specs.Setting.{Setting, State, tableRoom, mostTables, stands}
 use Rattle.pieces.specs.Records.{Read, whole, cut, tablesOf, firstFault, allBelow}

@@ -7,7 +7,7 @@ use mathlib.Core.List.{List, [], _∷_}
 use Prim.Native.Nat.{ℕ, zero, suc, _-_}
 use lib.ListN.{replicate}
 use Rattle.field.specs.Field.{p}
-use Rattle.pieces.specs.Setting.{Setting, Store, Held, cols, stands}
+use Rattle.pieces.specs.Setting.{Setting, Store, cols, stands}
 use Rattle.pieces.specs.Records.{readBy, rowsOf, firstFault, allBelow}
 use Rattle.pieces.specs.Writing.{put, padded, putLines}
 use Rattle.pieces.specs.Opening.{fresh}

@@ -2,7 +2,7 @@
 --
 -- Main definition: `Reads` (what columns hold). Main statements: `put-at`, `put-other`, `padded-at`, `lines-reads` (lines put end to end),
 -- `lines-other` (words of other columns are kept), `put-line` (a line in parts), and for loops `put-turn`, `put-done`.
-use mathlib.Core.Path.{_≡_, refl, sym, ap, _∙_}
+use mathlib.Core.Path.{_≡_, refl, ap, _∙_}
 use mathlib.Core.Logic.{_≢_}
 use mathlib.Core.List.{List, [], _∷_, _++_, append-assoc, append-nil}
 use Prim.Native.Nat.{ℕ, zero, suc, _+_, _-_, _*_, _≤_, _<_}
@@ -11,7 +11,7 @@ use native.Mathlib.Numerals.{add-one}
 use native.Mathlib.Decide.{ℕ-discrete, decLt}
 use native.Mathlib.Omega.{arith}
 use lib.ListN.{length, getD, set, take, drop, replicate, length-set, length-append, List·getD-append, List·getD-eq-default}
-use lib.Seq.{getD-set-same, getD-set-other, getD-append-seam, drop-cons}
+use lib.Seq.{getD-set-same, getD-set-other, getD-append-seam}
 use Rattle.base.specs.Drops.{drop-none, drop-one}
 use Rattle.pieces.specs.Writing.{put, padded, putLines, cleared}
 
@@ -54,7 +54,7 @@ padded-at (suc n) (w ∷ ws) zero h = refl
 padded-at (suc n) (w ∷ ws) (suc c) h = padded-at n ws c (le-of-suc-le-suc h)
 
 -- ---- a place of N rows is in one row
-pub one-row : (N c r d s : ℕ) → r < N → s < N → c * N + r ≡ s + d * N → r ≡ s
+one-row : (N c r d s : ℕ) → r < N → s < N → c * N + r ≡ s + d * N → r ≡ s
 one-row N c r d s hr hs e = go (decLt c d) (decLt d c)
   where
     go : Dec (c < d) → Dec (d < c) → r ≡ s
@@ -69,13 +69,13 @@ below-rows N c r k hr hc = omega (arith, mul-le-mul-right N hc)
 abbrev pub Reads : ℕ → ℕ → List (List ℕ) → List ℕ → Type 0
 Reads k N ls b = (r c : ℕ) → r < N → c < k → getD b (c * N + r) 0 ≡ getD (getD ls r []) c 0
 
-pub past-end : (ls : List (List ℕ)) (l : List ℕ) (r : ℕ) → length ls < r → getD (ls ++ (l ∷ [])) r [] ≡ []
+past-end : (ls : List (List ℕ)) (l : List ℕ) (r : ℕ) → length ls < r → getD (ls ++ (l ∷ [])) r [] ≡ []
 past-end [] l zero h = absurd (not-suc-le-zero h)
 past-end [] l (suc r) h = refl
 past-end (x ∷ ls) l zero h = absurd (not-suc-le-zero h)
 past-end (x ∷ ls) l (suc r) h = past-end ls l r (le-of-suc-le-suc h)
 
-pub line-reads : (k N : ℕ) (ls : List (List ℕ)) (l b : List ℕ) → k * N ≤ length b → length ls < N → Reads k N ls b → Reads k N (ls ++ (l ∷ [])) (put N b (length ls) (padded k l))
+line-reads : (k N : ℕ) (ls : List (List ℕ)) (l b : List ℕ) → k * N ≤ length b → length ls < N → Reads k N ls b → Reads k N (ls ++ (l ∷ [])) (put N b (length ls) (padded k l))
 line-reads k N ls l b long room reads r c hr hc = go (ℕ-discrete r (length ls)) (decLt r (length ls))
   where
     go : Dec (r ≡ length ls) → Dec (r < length ls) → getD (put N b (length ls) (padded k l)) (c * N + r) 0 ≡ getD (getD (ls ++ (l ∷ [])) r []) c 0

@@ -1,7 +1,7 @@
 // A listing in one call: tested whole (20), then run section by section.
 ghost use mathlib.Core.Path.{_≡_};
 ghost use lib.ListN.{length};
-ghost use Rattle.listing.specs.Ends.{cut, wordsAt};
+ghost use Rattle.listing.specs.Places.{cut, wordsAt};
 ghost use Rattle.columns.specs.Intake.{storeOf};
 ghost use Rattle.stage.specs.Listed.{parametersFrom, wordsAnswer, wordsLeft, listedAnswer, listedLeft};
 use crate::circuit::Staged;

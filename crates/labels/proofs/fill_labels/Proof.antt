@@ -11,7 +11,8 @@ use native.Mathlib.Nat.{mul-le-mul-right}
 use native.Mathlib.Omega.{arith}
 use lib.ListN.{length}
 use Rattle.base.specs.Fills.{filled-list}
-use Rattle.labels.specs.Ranges.{rangesFit, Ranges, ranges-fit, some-row, cells-fit}
+use Rattle.labels.specs.Ranges.{rangesFit}
+use Rattle.labels.specs.RangesLaws.{Ranges, ranges-fit, some-row, cells-fit}
 use Rattle.labels.specs.Labels.{representativesNumber, representativesOf, labelOf, fillNumber, labelsWritten}
 use Rattle.labels.specs.Filling.{all-columns}
 use Rattle.labels.specs.LabelLaws.{column-zero, fill-number, written-is, written-refused}

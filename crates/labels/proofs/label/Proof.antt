@@ -11,7 +11,8 @@ use native.Mathlib.Nat.{div-lt-iff-lt-mul}
 use native.Mathlib.Omega.{arith}
 use lib.ListN.{getD}
 use Rattle.field.specs.Field.{fmul, fpow}
-use Rattle.labels.specs.Ranges.{rangesFit, Ranges, ranges-fit, some-row, cells-fit}
+use Rattle.labels.specs.Ranges.{rangesFit}
+use Rattle.labels.specs.RangesLaws.{Ranges, ranges-fit, some-row, cells-fit}
 use Rattle.labels.specs.Labels.{representativesOf, labelOf, labelNumber, labelAnswer}
 use Rattle.labels.specs.LabelLaws.{label-number, label-accepted, label-refused}
 use borrow.Author.Needs.{needs}

@@ -8,7 +8,8 @@ use Prim.Native.Nat.{_≤_, _<_}
 use native.Mathlib.Omega.{arith}
 use lib.ListN.{length}
 use Rattle.labels.specs.declared.NonResidues.{NonResidues}
-use Rattle.labels.specs.Ranges.{rangesFit, ranges-fit}
+use Rattle.labels.specs.Ranges.{rangesFit}
+use Rattle.labels.specs.RangesLaws.{ranges-fit}
 use Rattle.labels.specs.Labels.{found, searchNumber, representativesNumber, representativesOf}
 use borrow.Author.Needs.{needs}
 use Rattle.labels.proofs.representatives.Statement.{statement}

@@ -6,7 +6,8 @@ use native.Mathlib.Omega.{arith}
 use Prim.Native.Nat.{ℕ, _+_, _-_, _<_, _≤_}
 use lib.ListN.{getD, take, drop}
 use Rattle.field.specs.Field.{p}
-use Rattle.pieces.specs.Records.{whole, rowSize, front, allBelow}
+use Rattle.pieces.specs.Records.{whole, rowSize, allBelow}
+use Rattle.pieces.specs.Front.{front}
 use Rattle.pieces.specs.Rows.{rowFault}
 use Rattle.pieces.specs.RecordLaws.{front-short, front-cut, front-whole}
 use Rattle.pieces.specs.FaultLaws.{row-cut, row-large, row-past, row-good, front-unknown, front-long}

@@ -7,7 +7,8 @@ use native.Mathlib.Omega.{arith}
 use Prim.Native.Nat.{ℕ, _+_, _-_, _<_, _≤_}
 use lib.ListN.{length, getD, take, drop}
 use mathlib.Core.Logic.{_≢_}
-use Rattle.pieces.specs.Records.{Read, cut, rowSize, front}
+use Rattle.pieces.specs.Records.{Read, cut, rowSize}
+use Rattle.pieces.specs.Front.{front}
 use Rattle.pieces.specs.Rows.{rowFault}
 use Rattle.pieces.specs.RecordLaws.{uncut}
 use Rattle.pieces.specs.FaultLaws.{RowFine, row-cut, row-fine}

@@ -9,7 +9,8 @@ use mathlib.Core.List.{List}
 use mathlib.Core.Bool.{true}
 use native.Mathlib.Nat.{mul-le-mul}
 use Rattle.field.specs.Field.{p}
-use Rattle.pieces.specs.Records.{whole, cut, tableSize, front, allBelow}
+use Rattle.pieces.specs.Records.{whole, cut, tableSize, allBelow}
+use Rattle.pieces.specs.Front.{front}
 use Rattle.pieces.specs.Tables.{tableFault}
 use Rattle.pieces.specs.RecordLaws.{front-short, front-cut, front-whole}
 use Rattle.pieces.specs.FaultLaws.{table-cut, table-mode, table-front, table-width, table-count, table-past, table-large, table-good}

@@ -10,7 +10,8 @@ use mathlib.Core.Logic.{_≢_}
 use mathlib.Core.Bool.{Bool}
 use native.Mathlib.Numerals.{add-one}
 use native.Mathlib.Nat.{mul-le-mul}
-use Rattle.pieces.specs.Records.{Read, whole, cut, tableSize, front, readBy, tablesOf}
+use Rattle.pieces.specs.Records.{Read, whole, cut, tableSize, readBy, tablesOf}
+use Rattle.pieces.specs.Front.{front}
 use Rattle.pieces.specs.Tables.{Stack, stackNext, tableFault}
 use Rattle.pieces.specs.RecordLaws.{Uncut, uncut, Looking, looking-begin, looking-done, looking-found, looking-next}
 use Rattle.pieces.specs.FaultLaws.{TableFine, table-cut, table-fine}

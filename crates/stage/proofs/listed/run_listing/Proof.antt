@@ -3,7 +3,7 @@
 use borrow.Author.Needs.{needs}
 use mathlib.Core.Path.{sym, _∙_}
 use Rattle.columns.specs.Intake.{storeOf}
-use Rattle.listing.specs.Ends.{wordsAt}
+use Rattle.listing.specs.Places.{wordsAt}
 use Rattle.listing.specs.ReaderLaws.{read-whole, read-refused, read-eight}
 use Rattle.stage.specs.Listed.{listed-whole, listed-refused}
 use Rattle.stage.proofs.listed.run_listing.Statement.{statement}

@@ -4,7 +4,7 @@ use borrow.Author.Needs.{needs}
 use mathlib.Core.Path.{ap, _∙_}
 use lib.ListN.{length}
 use Rattle.columns.specs.Intake.{storeOf}
-use Rattle.listing.specs.Ends.{wordsAt}
+use Rattle.listing.specs.Places.{wordsAt}
 use Rattle.stage.specs.Listed.{parametersFrom, words-same}
 use Rattle.stage.proofs.listed.run_parts.Statement.{statement}
 use Rattle.stage.proofs.listed.run_parts.Tie as tie
