@@ -55,7 +55,7 @@ byte-within s b h = go (decLt (s .at) (length (s .bytes)))
     go (yes l) = rw (lt-ltb (s .at) (length (s .bytes)) l, length-set) l
     go (no n) = rw (le-ltb (s .at) (length (s .bytes)) (omega arith)) h
 
-pub put-within : (s : Sink) (text : List ℕ) → s .at ≤ length (s .bytes) → put s text .at ≤ length (put s text .bytes)
+put-within : (s : Sink) (text : List ℕ) → s .at ≤ length (s .bytes) → put s text .at ≤ length (put s text .bytes)
 unfolding put
 put-within s [] h = h
 put-within s (b ∷ bs) h = put-within (putByte s b) bs (byte-within s b h)
