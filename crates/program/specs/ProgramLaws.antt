@@ -1,6 +1,6 @@
 -- The program's text, by the tests.
 --
--- Main statements: `text-long`, `text-odd`, `text-words`, `text-read` (the unread bytes of an over-long input change nothing), `printed-refused`, `printed-whole`, `printed-by`.
+-- Main statements: `text-long`, `text-odd`, `text-words`, `text-read` (the unread bytes of an over-long input change nothing), `printed-refused`, `printed-by`.
 use mathlib.Core.Path.{_≡_, sym, ap, _∙_}
 use mathlib.Core.Logic.{_≢_}
 use mathlib.Core.List.{List}
@@ -11,7 +11,7 @@ use lib.Dec.{eqb, leb}
 use lib.ListN.{length, take, length-take}
 use lib.Seq.{take-all}
 use borrow.Author.Tests.{le-leb, lt-leb, eq-eqb, ne-eqb}
-use Rattle.base.specs.Pick.{pick, pick-yes, pick-no}
+use Rattle.base.specs.Pick.{pick-yes, pick-no}
 use Rattle.bytes.specs.Words.{wordsOf}
 use Rattle.tree.specs.declared.plan.Plan.{Plan}
 use Rattle.pieces.specs.Setting.{Store}
@@ -50,7 +50,7 @@ module _ (words : List ℕ) where
   unfolding printed
   printed-refused n = sym (pick-no (eqb (listedAnswer words lent .number) 0) _ (refusedLine (listedAnswer words lent .number)) (ne-eqb (listedAnswer words lent .number) 0 n))
 
-  pub printed-whole : listedAnswer words lent .number ≡ 0
+  printed-whole : listedAnswer words lent .number ≡ 0
       → reportOf (listedAnswer words lent .plan) (listedLeft words lent .constants) (listedLeft words lent .cells .copies) (listedLeft words lent .tables) ≡ printed words
   unfolding printed
   printed-whole e = sym (pick-yes (eqb (listedAnswer words lent .number) 0) _ (refusedLine (listedAnswer words lent .number)) (eq-eqb (listedAnswer words lent .number) 0 e))
