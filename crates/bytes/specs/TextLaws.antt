@@ -3,8 +3,8 @@
 -- Main statements: `put-append`, `put-turn`, `put-full`, `put-all` (where the buffer is long enough, it begins with the text), `fields-turn`, `put-counts`, `fewest-decimal`.
 use mathlib.Core.Path.{_≡_, refl, sym, ap, _∙_, subst}
 use mathlib.Core.List.{List, [], _∷_, _++_}
-use Prim.Native.Nat.{ℕ, zero, suc, _+_, _-_, _*_, _/_, _%_, _^_, _≤_, _<_}
-use native.Mathlib.Decide.{ℕ-discrete, decLt}
+use Prim.Native.Nat.{ℕ, zero, suc, _+_, _-_, _*_, _/_, _^_, _≤_, _<_}
+use native.Mathlib.Decide.{decLt}
 use native.Mathlib.Nat.{add-zero, pow-suc, div-lt-iff-lt-mul, le-div-iff-mul-le, pow-le-pow-right}
 use native.Mathlib.Omega.{arith}
 use lib.ListN.{length, getD, set, drop, length-set, drop-of-length-le}
@@ -55,7 +55,7 @@ byte-within s b h = go (decLt (s .at) (length (s .bytes)))
     go (yes l) = rw (lt-ltb (s .at) (length (s .bytes)) l, length-set) l
     go (no n) = rw (le-ltb (s .at) (length (s .bytes)) (omega arith)) h
 
-pub put-within : (s : Sink) (text : List ℕ) → s .at ≤ length (s .bytes) → put s text .at ≤ length (put s text .bytes)
+put-within : (s : Sink) (text : List ℕ) → s .at ≤ length (s .bytes) → put s text .at ≤ length (put s text .bytes)
 unfolding put
 put-within s [] h = h
 put-within s (b ∷ bs) h = put-within (putByte s b) bs (byte-within s b h)

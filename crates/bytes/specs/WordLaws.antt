@@ -1,10 +1,9 @@
 -- Words read from bytes, one after the other.
 --
 -- Main statements: `words-filled` (a buffer filled to its last word or the bytes' last), `words-whole` (a buffer that takes them all begins with them).
-use mathlib.Core.Path.{_≡_, refl, sym, ap, _∙_}
-use mathlib.Core.List.{List, [], _∷_, _++_}
-use Prim.Native.Nat.{ℕ, _/_, _≤_, min}
-use native.Mathlib.Nat.{min-eq-left}
+use mathlib.Core.Path.{_≡_, refl, ap, _∙_}
+use mathlib.Core.List.{List, [], _∷_}
+use Prim.Native.Nat.{ℕ, _/_, _≤_}
 use native.Mathlib.Omega.{arith}
 use lib.ListN.{length, take, drop}
 use lib.Seq.{take-at}

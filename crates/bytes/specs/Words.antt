@@ -9,7 +9,7 @@ use Rattle.base.specs.Pick.{pick}
 use Rattle.base.specs.Tables.{table}
 
 -- two bytes, the lower first
-abbrev pub pair : List ℕ → ℕ → ℕ → ℕ
+abbrev pair : List ℕ → ℕ → ℕ → ℕ
 pair bytes i j = getD bytes i 0 + 256 * getD bytes j 0
 
 -- "Little-endian": the word number i, 0 where its eight bytes are not all there

@@ -4,6 +4,10 @@
 ghost use mathlib.Core.Path.{_≡_};
 ghost use lib.ListN.{length};
 use libc::STDOUT_FILENO;
+use program::program::INPUT_ROOM;
+use program::program::Input;
+use program::program::OUTPUT_ROOM;
+use program::program::Output;
 use program::program::run_bytes;
 use replay::Replay;
 
@@ -12,13 +16,6 @@ fn space() -> [u8; 393216]
     ensures { λ r. ⌜ 393216 ≡ length r ⌝ }
 {
     [0; 393216]
-}
-
-// Room for what is printed.
-fn output() -> [u8; 540672]
-    ensures { λ r. ⌜ 540672 ≡ length r ⌝ }
-{
-    [0; 540672]
 }
 
 // The bytes from the start of a word on, as many as are asked for and as there are.
@@ -53,6 +50,19 @@ fn same(a: &[u8], b: &[u8]) -> bool {
     true
 }
 
+// Puts bytes at the start of an input's room, as many as it takes, as reading does. Answers how many.
+fn fill(room: &mut Input, bytes: &[u8]) -> usize {
+    let mut i = 0;
+    while i < bytes.len() {
+        if INPUT_ROOM <= i {
+            return i;
+        }
+        room[i] = bytes[i];
+        i = i + 1;
+    }
+    i
+}
+
 // Past some words.
 fn past(start: Replay, words: usize) -> Replay {
     let mut s = start;
@@ -78,8 +88,10 @@ fn replay_listing(bytes: &[u8], start: Replay) -> Replay {
     let wanted = start.step().word(bytes) as usize;
     let input = start.step().step();
     let text = past(input, words_for(given));
-    let mut out = output();
-    let many = run_bytes(part(bytes, input.at as usize, given), &mut out);
+    let mut room: Input = [0; INPUT_ROOM];
+    let read = fill(&mut room, part(bytes, input.at as usize, given));
+    let mut out: Output = [0; OUTPUT_ROOM];
+    let many = run_bytes(&room, read, &mut out);
     let good = same(&out[..many], part(bytes, text.at as usize, wanted));
     past(text, words_for(wanted)).note(good)
 }

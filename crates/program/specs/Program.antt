@@ -1,10 +1,11 @@
 -- 01, 'Listing': the program `setup`, from the bytes that it reads to the bytes that it prints.
 --
--- Main definitions: `printed`, `programText`.
-use mathlib.Core.List.{List}
+-- Main definitions: `printed`, `programText`, `WholeIn`, `ReadOf`.
+use mathlib.Core.Path.{_≡_}
+use mathlib.Core.List.{List, _++_}
 use Prim.Native.Nat.{ℕ, _%_}
 use lib.Dec.{eqb, leb}
-use lib.ListN.{length, replicate}
+use lib.ListN.{length, take, drop, replicate}
 use Rattle.base.specs.Pick.{pick}
 use Rattle.bytes.specs.Words.{wordsOf}
 use Rattle.pieces.specs.Setting.{Store}
@@ -13,7 +14,7 @@ use Rattle.report.specs.Report.{refusedLine, reportOf}
 use Rattle.stage.specs.Listed.{listedAnswer, listedLeft}
 
 -- "lends 8,192 words for each buffer"
-abbrev pub lentWords : ℕ
+abbrev lentWords : ℕ
 lentWords = 8192
 
 unfoldable pub lent : Store
@@ -34,3 +35,12 @@ mostBytes = 65536
 unfoldable pub programText : List ℕ → List ℕ
 programText bytes =
     pick (leb (length bytes) mostBytes) (pick (eqb (length bytes % 8) 0) (printed (wordsOf bytes)) (refusedLine 20)) (refusedLine 20)
+
+-- the text stands whole in the buffer, with what the buffer held behind it, and r is its length
+pub record WholeIn (text old new : List ℕ) (r : ℕ) : Type 0 where
+  pub many : r ≡ length text
+  pub held : new ≡ text ++ drop (length text) old
+
+-- reading stopped where the input ended or its room was full: the bytes read are the first of the whole input, as many as the room takes
+abbrev pub ReadOf : List ℕ → List ℕ → ℕ → Type 0
+ReadOf whole room many = take many room ≡ take (length room) whole

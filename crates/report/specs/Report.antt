@@ -2,7 +2,7 @@
 -- as `table`; then id indexes. Fields are parted by one space, path digits by nothing; an empty path or id list ends its line after the field before it."
 --
 -- Main definitions: `reportLines`, `refusedLine`, `reportOf`.
-use mathlib.Core.Bool.{Bool, true, false}
+use mathlib.Core.Bool.{Bool}
 use mathlib.Core.List.{List, [], _∷_, _++_}
 use Prim.Native.Nat.{ℕ, zero, suc, _+_, _*_}
 use lib.Dec.{eqb, leb, ltb}

@@ -1,29 +1,52 @@
 // The program `setup`: a listing on standard input, the plan and the columns on standard output. What
-// is printed for which bytes is `program`'s contract; here is only what reads and writes them.
-ghost use mathlib.Core.Path.{_≡_};
-ghost use lib.ListN.{length};
+// is printed for which bytes is `program`'s contract, and so are the rooms for both; here is only what
+// reads and writes them. A line on standard error stands for the exit status that a program cannot set.
+use libc::STDERR_FILENO;
 use libc::STDIN_FILENO;
 use libc::STDOUT_FILENO;
+use program::program::INPUT_ROOM;
+use program::program::Input;
+use program::program::OUTPUT_ROOM;
+use program::program::Output;
+use program::program::run_bytes;
 
-// One byte more than the longest input: a longer one is seen to be too long.
-fn input() -> [u8; 65537]
-    ensures { λ r. ⌜ 65537 ≡ length r ⌝ }
-{
-    [0; 65537]
+// What reading came to: so many bytes at the room's start, or a read that failed.
+enum Reading {
+    Bytes(usize),
+    Failed,
 }
 
-// Room for the longest report: three buffers of 8,192 words, at most twenty digits and a space each, and
-// some 200 lines with what is not a column's word.
-fn output() -> [u8; 540672]
-    ensures { λ r. ⌜ 540672 ≡ length r ⌝ }
-{
-    [0; 540672]
+// Reads until the room is full, the input ends or a read fails.
+fn fill(room: &mut [u8]) -> Reading {
+    let mut many = 0;
+    while many < room.len() {
+        let rest = &mut room[many..];
+        let got = libc::read(STDIN_FILENO, rest);
+        if got < 0 {
+            return Reading::Failed;
+        }
+        let more = io::count(got, rest);
+        if more == 0 {
+            return Reading::Bytes(many);
+        }
+        many += more;
+    }
+    Reading::Bytes(many)
+}
+
+fn read_input(room: &mut Input) -> Reading {
+    fill(room)
 }
 
 fn main() {
-    let mut input = input();
-    let length = io::read_full(STDIN_FILENO, &mut input);
-    let mut output = output();
-    let many = program::program::run_bytes(&input[..length], &mut output);
-    io::write_all(STDOUT_FILENO, &output[..many]);
+    let mut input: Input = [0; INPUT_ROOM];
+    let Reading::Bytes(many) = read_input(&mut input) else {
+        io::write_all(STDERR_FILENO, b"setup: standard input cannot be read\n");
+        return;
+    };
+    let mut output: Output = [0; OUTPUT_ROOM];
+    let length = run_bytes(&input, many, &mut output);
+    if !io::write_all(STDOUT_FILENO, &output[..length]) {
+        io::write_all(STDERR_FILENO, b"setup: standard output cannot be written\n");
+    }
 }
