@@ -15,7 +15,7 @@ use Rattle.selector.specs.MadeUp.{wanted}
 use Rattle.selector.specs.Paths.{pathTo, pathOf}
 use Rattle.selector.specs.Search.{mayStand, firstBound, firstTarget, treeWithin, searchTree, planTree, degreeOver, constantsOver}
 use Rattle.selector.specs.Tree.{leaf, offer, offerAll, grown}
-use Rattle.parameters.specs.Parameters.{rangeNumber, parametersNumber}
+use Rattle.parameters.specs.Parameters.{parametersAt, rangeNumber, parametersNumber}
 use Rattle.parameters.specs.declared.parameters.Parameters.{Parameters}
 use Rattle.tree.specs.Plan.{zeroPlan, wordsNumber, planNumber, planAnswer}
 use Rattle.tree.specs.declared.plan.Plan.{Plan}
@@ -30,13 +30,12 @@ use Rattle.columns.specs.declared.intake.Taken.{Taken}
 use Rattle.claim.specs.Chain.{Kept, answer, left}
 use Rattle.claim.specs.Statement.{heldOf, settingFor, Opened, kept}
 use Rattle.claim.specs.Theorem.{claim}
-use Rattle.stage.specs.Listed.{parametersFrom}
 use Rattle.cases.specs.Columns.{setting-known, old, lone, lone-path, three, four, nop, two, p9-calls, x₉, accepts₆, accepts₉, known₉, found₉, labels₉, opens₉, kept₉}
 use Rattle.cases.specs.SaidOfOthers.{finished₉}
 
 -- ---- planning: N=3 is no power of two
 abbrev pub odd : Parameters
-odd = parametersFrom (3 ∷ 2 ∷ 0 ∷ 0 ∷ 1 ∷ 0 ∷ 0 ∷ 0 ∷ [])
+odd = parametersAt (3 ∷ 2 ∷ 0 ∷ 0 ∷ 1 ∷ 0 ∷ 0 ∷ 0 ∷ [])
 
 refuses₃ : planNumber odd nop ≡ 1
 unfolding orNumber exponentFrom rangesFit rangeNumber parametersNumber wordsNumber planNumber

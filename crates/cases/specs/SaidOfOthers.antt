@@ -23,7 +23,7 @@ use Rattle.selector.specs.NodeLaws.{own-tree}
 use Rattle.selector.specs.Refusals.{wordsFit, recordNumber, recordsNumber, someKind, lookupNumber, kindsNumber, constantsNumber, gatesNumber}
 use Rattle.selector.specs.Search.{mayStand, firstBound, firstTarget, treeWithin, searchTree, planTree, degreeOver, constantsOver}
 use Rattle.selector.specs.Tree.{leaf, offer, offerAll, grown}
-use Rattle.parameters.specs.Parameters.{rangeNumber, flagNumber, parametersNumber, lookupOf}
+use Rattle.parameters.specs.Parameters.{parametersAt, rangeNumber, flagNumber, parametersNumber, lookupOf}
 use Rattle.parameters.specs.declared.lookup.LookupParameters.the-variants.{NoLookup, UseSpecializedColumnsWithTableIdAsVariable}
 use Rattle.selector.specs.Paths.{pathTo, pathOf}
 use Rattle.parameters.specs.declared.parameters.Parameters.{Parameters}
@@ -45,7 +45,6 @@ use Rattle.claim.specs.Chain.{Kept, answer}
 use Rattle.claim.specs.Statement.{product, noughts, RowOf, Stands, Has, SameColumns, Right, settingFor, kept, Finished}
 use Rattle.claim.specs.Model.{circuitBy, FinishesBy}
 use Rattle.claim.specs.Theorem.{claim}
-use Rattle.stage.specs.Listed.{parametersFrom}
 use Rattle.cases.specs.Columns.{settingWith, setting-known, kept-known, path-of, old, lone, lone-path, one, nop, two, p9-calls, p9-refused, x₉, accepts₉, known₉, found₉, labels₉, opens₉, p9}
 use Rattle.cases.specs.Listed.{parameters, gates, plan-number, plan, tree, plan-known, path-is}
 use Rattle.cases.specs.Drawn.{finished, circuit-known, drawn}
@@ -53,7 +52,7 @@ use Rattle.cases.specs.SaidOfListing.{labels₈, circuit₈, x₈, calls
 
 -- ---- a circuit with S words, tables and rows of a dropped gate: N=4, C=1, A=1, S=1, V=1, mode 3, W=1; gates (0,2,1), (1,0,0), (2,0,0)
 abbrev pub looking : Parameters
-looking = parametersFrom (4 ∷ 1 ∷ 1 ∷ 1 ∷ 1 ∷ 3 ∷ 1 ∷ 0 ∷ [])
+looking = parametersAt (4 ∷ 1 ∷ 1 ∷ 1 ∷ 1 ∷ 3 ∷ 1 ∷ 0 ∷ [])
 
 abbrev pub dropping : List ℕ
 dropping = 0 ∷ 2 ∷ 1 ∷ 1 ∷ 0 ∷ 0 ∷ 2 ∷ 0 ∷ 0 ∷ []

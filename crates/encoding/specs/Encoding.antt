@@ -10,8 +10,7 @@ use Rattle.base.specs.Pick.{both, pick}
 use Rattle.columns.specs.Intake.{startOf}
 use Rattle.columns.specs.declared.intake.Intake.{Intake}
 use Rattle.parameters.specs.Lookup.{flagOf, modeOf, shareOf, widthOf}
-use Rattle.parameters.specs.Parameters.{lookupOf}
-use Rattle.parameters.specs.declared.parameters.Parameters.{Parameters}
+use Rattle.parameters.specs.Parameters.{lookupOf, parametersAt}
 use Rattle.pieces.specs.Setting.{neverOpened}
 use Rattle.tree.specs.Plan.{zeroPlan}
 use Rattle.tree.specs.declared.plan.Plan.{Plan}
@@ -25,20 +24,6 @@ planLength = 1162
 
 abbrev pub stateLength : ℕ
 stateLength = 1296
-
--- the eight parameter words: N, C, A, S, V, mode, W, share flag
-abbrev pub parametersAt : List ℕ → Parameters
-parametersAt ws =
-    record {
-      trace = getD ws 0 0;
-      copy = getD ws 1 0;
-      allowed = getD ws 2 0;
-      specialised = getD ws 3 0;
-      variables = getD ws 4 0;
-      mode = getD ws 5 0;
-      width = getD ws 6 0;
-      share = getD ws 7 0;
-    }
 
 -- whether some lookup mode has this number, width and flag: mode 0 holds neither width nor flag, the others hold any width and a flag of 0 or 1
 unfoldable pub lookupFits : ℕ → ℕ → ℕ → Bool

@@ -17,14 +17,14 @@ use native.Mathlib.Omega.{arith}
 use Rattle.base.specs.Pick.{both, both-true, pick, pick-no, pick-yes}
 use Rattle.columns.specs.declared.intake.Intake.{Intake}
 use Rattle.parameters.specs.Lookup.{flagOf, modeOf, shareOf, widthOf}
-use Rattle.parameters.specs.Parameters.{lookupOf, parametersNumber}
+use Rattle.parameters.specs.Parameters.{parametersAt, lookupOf, parametersNumber}
 use Rattle.parameters.specs.ParametersLaws.{LookupWords}
 use Rattle.parameters.specs.declared.lookup.LookupParameters.the-variants.{NoLookup, TableIdAsConstant, TableIdAsVariable, UseSpecializedColumnsWithTableIdAsConstant, UseSpecializedColumnsWithTableIdAsVariable}
 use Rattle.parameters.specs.declared.lookup.LookupParameters.{LookupParameters}
 use Rattle.parameters.specs.declared.parameters.Parameters.{Parameters}
 use Rattle.tree.specs.Plan.{parametersOf, planFault, zeroPlan}
 use Rattle.tree.specs.declared.plan.Plan.{Plan}
-use Rattle.encoding.specs.Encoding.{handed, headWords, intakeAt, intakeOf, intakeWords, lookupFits, parametersAt, planAt, planLength, planOf, planWords, progressOf, progressWords, progressed, stateLength, tailWords, zeroIntake}
+use Rattle.encoding.specs.Encoding.{handed, headWords, intakeAt, intakeOf, intakeWords, lookupFits, planAt, planLength, planOf, planWords, progressOf, progressWords, progressed, stateLength, tailWords, zeroIntake}
 
 -- ---- the lookup mode
 fits-each : (l : LookupParameters) → lookupFits (modeOf l) (widthOf l) (flagOf (shareOf l)) ≡ true

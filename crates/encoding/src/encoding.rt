@@ -1,13 +1,13 @@
 // Plans and states as words, in the order of their fields.
 ghost use mathlib.Core.Path.{_≡_};
 ghost use Prim.Native.Nat.{_+_, _≤_};
-ghost use lib.ListN.{getD, length};
+ghost use lib.ListN.{length};
 ghost use lib.Seq.{paste};
 ghost use Rattle.parameters.specs.Lookup.{flagOf};
-ghost use Rattle.encoding.specs.Encoding.{handed, intakeOf, intakeWords, lookupFits, parametersAt, planOf, planWords, progressWords, progressed};
+ghost use Rattle.encoding.specs.Encoding.{handed, intakeOf, intakeWords, lookupFits, planOf, planWords, progressWords, progressed};
 use columns::intake::Intake;
 use columns::intake::NEVER;
-use parameters::parameters::Parameters;
+use parameters::parameters::parameters_at;
 use tree::plan::Plan;
 
 // Where the parts of a plan's words end: parameters and lookup mode, gates, their count, nodes, the rest.
@@ -46,32 +46,6 @@ pub fn hand(words: &[u64], out: &mut [u64])
 {
     if words.len() <= out.len() {
         copy_words(words, 0, out);
-    }
-}
-
-// The word at a place, 0 past the end.
-fn word_or_zero(words: &[u64], at: usize) -> u64
-    ensures { λ r. ⌜ r ≡ getD (now (words .entry)) at 0 ⌝ }
-{
-    if at < words.len() {
-        return words[at];
-    }
-    0
-}
-
-// The eight parameter words; one that is missing is 0.
-pub fn parameters_at(words: &[u64]) -> Parameters
-    ensures { λ r. ⌜ r ≡ parametersAt (now (words .entry)) ⌝ }
-{
-    Parameters {
-        trace: word_or_zero(words, 0),
-        copy: word_or_zero(words, 1),
-        allowed: word_or_zero(words, 2),
-        specialised: word_or_zero(words, 3),
-        variables: word_or_zero(words, 4),
-        mode: word_or_zero(words, 5),
-        width: word_or_zero(words, 6),
-        share: word_or_zero(words, 7),
     }
 }
 

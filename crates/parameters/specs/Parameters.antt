@@ -1,14 +1,30 @@
 -- 01, 'When a call is turned down', planning's refusals 1 and 2, and the lookup mode that eight parameter words tell of.
 --
--- Main definitions: `parametersNumber`, `lookupOf`.
+-- Main definitions: `parametersAt`, `parametersNumber`, `lookupOf`.
 use Prim.Native.Nat.{ℕ}
 use lib.Dec.{eqb, leb}
+use lib.ListN.{getD}
+use mathlib.Core.List.{List}
 use Rattle.base.specs.Firsts.{orNumber}
 use Rattle.base.specs.Pick.{pick}
 use Rattle.labels.specs.Ranges.{rangesFit}
 use Rattle.parameters.specs.declared.lookup.LookupParameters.{LookupParameters}
 use Rattle.parameters.specs.declared.lookup.LookupParameters.the-variants.{NoLookup, TableIdAsConstant, TableIdAsVariable, UseSpecializedColumnsWithTableIdAsConstant, UseSpecializedColumnsWithTableIdAsVariable}
 use Rattle.parameters.specs.declared.parameters.Parameters.{Parameters}
+
+-- "parameters (8 words: N, C, A, S, V, mode, W, share flag)"; a word that is not there counts as 0
+abbrev pub parametersAt : List ℕ → Parameters
+parametersAt ws =
+    record {
+      trace = getD ws 0 0;
+      copy = getD ws 1 0;
+      allowed = getD ws 2 0;
+      specialised = getD ws 3 0;
+      variables = getD ws 4 0;
+      mode = getD ws 5 0;
+      width = getD ws 6 0;
+      share = getD ws 7 0;
+    }
 
 -- "1 a parameter outside its range (W 1..16 in modes 1 to 4; flag 0 or 1; W and flag 0 in mode 0; S at least 1 in mode 4)". The ranges: "N is the trace length, a
 -- power of two, 1..65,536. C: copy columns, 1..64. A: constants allowed, 0..16. S: specialised constant columns, 0..16. V: variables, 0..1,048,576."

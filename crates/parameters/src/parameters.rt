@@ -1,6 +1,7 @@
 // The eight parameter words, and the refusals 1 and 2.
 ghost use mathlib.Core.Path.{_≡_};
-ghost use Rattle.parameters.specs.Parameters.{rangeNumber, flagNumber, parametersNumber, lookupOf};
+ghost use lib.ListN.{getD};
+ghost use Rattle.parameters.specs.Parameters.{parametersAt, rangeNumber, flagNumber, parametersNumber, lookupOf};
 use crate::lookup::LookupParameters;
 
 // "A: constants allowed, 0..16. S: specialised constant columns, 0..16. V: variables, 0..1,048,576." W is 1..16 in modes 1 to 4.
@@ -22,6 +23,32 @@ pub struct Parameters {
     pub mode: u64,
     pub width: u64,
     pub share: u64,
+}
+
+// The word at a place, 0 past the end.
+fn word_or_zero(words: &[u64], at: usize) -> u64
+    ensures { λ r. ⌜ r ≡ getD (now (words .entry)) at 0 ⌝ }
+{
+    if at < words.len() {
+        return words[at];
+    }
+    0
+}
+
+// The eight parameter words; one that is missing is 0.
+pub fn parameters_at(words: &[u64]) -> Parameters
+    ensures { λ r. ⌜ r ≡ parametersAt (now (words .entry)) ⌝ }
+{
+    Parameters {
+        trace: word_or_zero(words, 0),
+        copy: word_or_zero(words, 1),
+        allowed: word_or_zero(words, 2),
+        specialised: word_or_zero(words, 3),
+        variables: word_or_zero(words, 4),
+        mode: word_or_zero(words, 5),
+        width: word_or_zero(words, 6),
+        share: word_or_zero(words, 7),
+    }
 }
 
 impl Parameters {

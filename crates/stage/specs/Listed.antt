@@ -1,36 +1,22 @@
 -- 01, 'Listing': "20 ..; then as above in section order".
 --
--- Main definitions: `parametersFrom`, `wordsAnswer`, `wordsLeft`, `listedAnswer`, `listedLeft`. Main statements: `listed-whole`, `listed-refused`, `words-same`.
+-- Main definitions: `wordsAnswer`, `wordsLeft`, `listedAnswer`, `listedLeft`. Main statements: `listed-whole`, `listed-refused`, `words-same`.
 use mathlib.Core.Path.{_≡_, sym, ap}
 use mathlib.Core.List.{List}
 use Prim.Native.Nat.{ℕ}
-use lib.ListN.{getD}
+use Rattle.parameters.specs.Parameters.{parametersAt}
 use Rattle.parameters.specs.declared.parameters.Parameters.{Parameters}
 use Rattle.pieces.specs.Setting.{Store}
 use Rattle.listing.specs.Listing.{Words, Reading, whole, refused, read}
 use Rattle.stage.specs.Circuit.{refusedBy, stageAnswer, stageLeft}
 use Rattle.stage.specs.declared.circuit.Staged.{Staged}
 
--- "parameters (8 words: N, C, A, S, V, mode, W, share flag)"
-abbrev pub parametersFrom : List ℕ → Parameters
-parametersFrom ws =
-    record {
-      trace = getD ws 0 0;
-      copy = getD ws 1 0;
-      allowed = getD ws 2 0;
-      specialised = getD ws 3 0;
-      variables = getD ws 4 0;
-      mode = getD ws 5 0;
-      width = getD ws 6 0;
-      share = getD ws 7 0;
-    }
-
 -- the circuit of a listing's six sections
 abbrev pub wordsAnswer : Words → Store → Staged
-wordsAnswer w b = stageAnswer (parametersFrom (w .parameters)) (w .gates) (w .rows) (w .sWords) (w .cells) (w .tables) b
+wordsAnswer w b = stageAnswer (parametersAt (w .parameters)) (w .gates) (w .rows) (w .sWords) (w .cells) (w .tables) b
 
 abbrev pub wordsLeft : Words → Store → Store
-wordsLeft w b = stageLeft (parametersFrom (w .parameters)) (w .gates) (w .rows) (w .sWords) (w .cells) (w .tables) b
+wordsLeft w b = stageLeft (parametersAt (w .parameters)) (w .gates) (w .rows) (w .sWords) (w .cells) (w .tables) b
 
 -- "20 .., tested over the whole input before all else": a refusal of the listing writes no word and hands back a plan of zeros
 abbrev pub answerBy : Reading → Store → Staged
@@ -58,6 +44,6 @@ module _ (ws : List ℕ) (b : Store) where
   listed-refused n e = (sym (ap (λ (r : Reading). answerBy r b) e), sym (ap (λ (r : Reading). leftBy r b) e))
 
 -- the same circuit, from equal sections
-pub words-same : (w : Words) (b : Store) (ps : Parameters) (g r s c t : List ℕ) → ps ≡ parametersFrom (w .parameters) → g ≡ w .gates → r ≡ w .rows → s ≡ w .sWords → c ≡ w .cells → t ≡ w .tables
+pub words-same : (w : Words) (b : Store) (ps : Parameters) (g r s c t : List ℕ) → ps ≡ parametersAt (w .parameters) → g ≡ w .gates → r ≡ w .rows → s ≡ w .sWords → c ≡ w .cells → t ≡ w .tables
     → (stageAnswer ps g r s c t b ≡ wordsAnswer w b) × (stageLeft ps g r s c t b ≡ wordsLeft w b)
 words-same w b ps g r s c t e₁ e₂ e₃ e₄ e₅ e₆ = (rw (e₁, e₂, e₃, e₄, e₅, e₆), rw (e₁, e₂, e₃, e₄, e₅, e₆))

@@ -1,9 +1,8 @@
 // A listing in one call: tested whole (20), then run section by section.
 ghost use mathlib.Core.Path.{_≡_};
-ghost use lib.ListN.{length};
-ghost use Rattle.listing.specs.Places.{cut, wordsAt};
+ghost use Rattle.listing.specs.Places.{wordsAt};
 ghost use Rattle.columns.specs.Intake.{storeOf};
-ghost use Rattle.stage.specs.Listed.{parametersFrom, wordsAnswer, wordsLeft, listedAnswer, listedLeft};
+ghost use Rattle.stage.specs.Listed.{wordsAnswer, wordsLeft, listedAnswer, listedLeft};
 use crate::circuit::Staged;
 use crate::circuit::refused;
 use crate::circuit::run_sections;
@@ -11,24 +10,7 @@ use listing::cursor::part_of;
 use listing::cursor::sections_of;
 use listing::sections::Listing;
 use listing::sections::Sections;
-use parameters::parameters::Parameters;
-
-// The eight parameter words, by name.
-fn parameters_from(words: &[u64]) -> Parameters
-    requires { ⌜ length (now words) ≡ 8 ⌝ }
-    ensures { λ r. ⌜ r ≡ parametersFrom (now (words .entry)) ⌝ }
-{
-    Parameters {
-        trace: words[0],
-        copy: words[1],
-        allowed: words[2],
-        specialised: words[3],
-        variables: words[4],
-        mode: words[5],
-        width: words[6],
-        share: words[7],
-    }
-}
+use parameters::parameters::parameters_at;
 
 // The circuit whose sections stand at these places of the words.
 fn run_parts(
@@ -39,7 +21,6 @@ fn run_parts(
     scratch: &mut [u64],
     tables: &mut [u64],
 ) -> Staged
-    requires { ⌜ length (cut (now words) (sections .parameters)) ≡ 8 ⌝ }
     ensures { λ r. ⌜ r ≡ wordsAnswer (wordsAt (now (words .entry)) sections) (storeOf (now (constants .entry)) (now (copies .entry)) (now (scratch .entry)) (now (tables .entry))) ⌝ }
     ensures { λ _. ⌜ storeOf (now (constants .exit)) (now (copies .exit)) (now (scratch .exit)) (now (tables .exit)) ≡ wordsLeft (wordsAt (now (words .entry)) sections) (storeOf (now (constants .entry)) (now (copies .entry)) (now (scratch .entry)) (now (tables .entry))) ⌝ }
 {
@@ -50,7 +31,7 @@ fn run_parts(
     let cells = sections.cells;
     let contents = sections.tables;
     run_sections(
-        parameters_from(part_of(words, eight.start, eight.len)),
+        parameters_at(part_of(words, eight.start, eight.len)),
         part_of(words, gates.start, gates.len),
         part_of(words, rows.start, rows.len),
         part_of(words, s_words.start, s_words.len),

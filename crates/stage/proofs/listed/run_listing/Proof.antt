@@ -4,7 +4,7 @@ use borrow.Author.Needs.{needs}
 use mathlib.Core.Path.{sym, _∙_}
 use Rattle.columns.specs.Intake.{storeOf}
 use Rattle.listing.specs.Places.{wordsAt}
-use Rattle.listing.specs.ReaderLaws.{read-whole, read-refused, read-eight}
+use Rattle.listing.specs.ReaderLaws.{read-whole, read-refused}
 use Rattle.stage.specs.Listed.{listed-whole, listed-refused}
 use Rattle.stage.proofs.listed.run_listing.Statement.{statement}
 use Rattle.stage.proofs.listed.run_listing.Tie as tie
@@ -16,10 +16,7 @@ enum-known-listing : tie.Need-enum-known-listing
 enum-known-listing c = search needs
 
 run-parts-requires : tie.Need-run-parts-requires
-run-parts-requires c κs =
-    let ws = c .before .before .before .before .before .before .before .before .before .before .before .before .before .args .words .now in
-    let g = c .before .before .before .before .before .listing .given in
-    read-eight ws (wordsAt ws (g .0 .0)) (read-whole ws (g .0 .0) (sym (g .1) ∙ c .before .before .before .before .before .before .before .sections-of .ensures))
+run-parts-requires c κs = search needs
 
 enum-known-listing-2 : tie.Need-enum-known-listing-2
 enum-known-listing-2 c = search needs

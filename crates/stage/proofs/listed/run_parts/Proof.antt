@@ -2,18 +2,18 @@
 -- Assumes nothing.
 use borrow.Author.Needs.{needs}
 use mathlib.Core.Path.{ap, _∙_}
-use lib.ListN.{length}
 use Rattle.columns.specs.Intake.{storeOf}
 use Rattle.listing.specs.Places.{wordsAt}
-use Rattle.stage.specs.Listed.{parametersFrom, words-same}
+use Rattle.parameters.specs.Parameters.{parametersAt}
+use Rattle.stage.specs.Listed.{words-same}
 use Rattle.stage.proofs.listed.run_parts.Statement.{statement}
 use Rattle.stage.proofs.listed.run_parts.Tie as tie
 
 part-of-requires : tie.Need-part-of-requires
 part-of-requires c κs = search needs
 
-parameters-from-requires : tie.Need-parameters-from-requires
-parameters-from-requires c κs = ap length (c .part-of .ensures) ∙ c .before .before .before .before .before .before .before .before .before .before .before .before .pre
+parameters-at-requires : tie.Need-parameters-at-requires
+parameters-at-requires c κs = search needs
 
 part-of-requires-2 : tie.Need-part-of-requires-2
 part-of-requires-2 c κs = search needs
@@ -50,9 +50,9 @@ returns c =
     let a = c .before .before .before .before .before .before .before .before .before .before .before .before .before .before .before .before .before .before .before .before .before .before .before .before .before .before .before .before .before .before .before .args in
     let w = c .before .before .before .before .before .before .before .before .run-sections .ensures in
     let k =
-    words-same (wordsAt (a .words .now) (a .sections)) (storeOf (a .constants .now) (a .copies .now) (a .scratch .now) (a .tables .now)) (c .before .before .before .before .before .before .before .before .before .before .before .before .before .before .before .before .before .before .parameters-from .result)
+    words-same (wordsAt (a .words .now) (a .sections)) (storeOf (a .constants .now) (a .copies .now) (a .scratch .now) (a .tables .now)) (c .before .before .before .before .before .before .before .before .before .before .before .before .before .before .before .before .before .before .parameters-at .result)
     (c .before .before .before .before .before .before .before .before .before .before .before .before .before .before .before .before .before .part-of2 .result .now) (c .before .before .before .before .before .before .before .before .before .before .before .before .before .before .before .before .part-of3 .result .now) (c .before .before .before .before .before .before .before .before .before .before .before .before .before .before .before .part-of4 .result .now) (c .before .before .before .before .before .before .before .before .before .before .before .before .before .before .part-of5 .result .now) (c .before .before .before .before .before .before .before .before .before .before .before .before .before .part-of6 .result .now)
-    (c .before .before .before .before .before .before .before .before .before .before .before .before .before .before .before .before .before .before .parameters-from .ensures ∙ ap parametersFrom (c .before .before .before .before .before .before .before .before .before .before .before .before .before .before .before .before .before .before .before .part-of .ensures))
+    (c .before .before .before .before .before .before .before .before .before .before .before .before .before .before .before .before .before .before .parameters-at .ensures ∙ ap parametersAt (c .before .before .before .before .before .before .before .before .before .before .before .before .before .before .before .before .before .before .before .part-of .ensures))
     (c .before .before .before .before .before .before .before .before .before .before .before .before .before .before .before .before .before .part-of2 .ensures)
     (c .before .before .before .before .before .before .before .before .before .before .before .before .before .before .before .before .part-of3 .ensures)
     (c .before .before .before .before .before .before .before .before .before .before .before .before .before .before .before .part-of4 .ensures)
@@ -66,7 +66,7 @@ run-parts-spec =
     tie.close
     (tie.spec
     part-of-requires
-    parameters-from-requires
+    parameters-at-requires
     part-of-requires-2
     part-of-requires-3
     part-of-requires-4

@@ -1,10 +1,10 @@
--- `encoding::word_or_zero` meets its contract: past the end `getD` is 0.
+-- `parameters::word_or_zero` meets its contract: past the end `getD` is 0.
 -- Assumes nothing.
 use borrow.Author.Needs.{needs}
 use lib.ListN.{List·getD-eq-default}
 use mathlib.Core.Path.{refl, sym}
-use Rattle.encoding.proofs.encoding.word_or_zero.Statement.{statement}
-use Rattle.encoding.proofs.encoding.word_or_zero.Tie as tie
+use Rattle.parameters.proofs.parameters.word_or_zero.Statement.{statement}
+use Rattle.parameters.proofs.parameters.word_or_zero.Tie as tie
 
 mul-result : tie.Need-mul-result
 mul-result c = search needs

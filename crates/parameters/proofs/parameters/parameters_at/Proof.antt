@@ -1,8 +1,8 @@
--- `encoding::parameters_at` meets its contract: each field is the word at its place.
+-- `parameters::parameters_at` meets its contract: each field is the word at its place.
 -- Assumes nothing.
 use borrow.Author.Needs.{needs}
-use Rattle.encoding.proofs.encoding.parameters_at.Statement.{statement}
-use Rattle.encoding.proofs.encoding.parameters_at.Tie as tie
+use Rattle.parameters.proofs.parameters.parameters_at.Statement.{statement}
+use Rattle.parameters.proofs.parameters.parameters_at.Tie as tie
 
 word-or-zero-requires : tie.Need-word-or-zero-requires
 word-or-zero-requires c κs = search needs
