@@ -1,7 +1,7 @@
 -- The reader of `Listing` and the places of `Ends` say the same.
 --
 -- Main statements: `listing-read` (the words at the places that the code answers are those that the reader gives, refusal for refusal); from it `read-whole` and `read-refused` (what a caller
--- knows after each of the code's answers), `refused-back`; `read-eight` (the parameters are eight words).
+-- knows after each of the code's answers), `refused-back`.
 use mathlib.Core.Path.{_≡_, refl, sym, ap, _∙_}
 use mathlib.Core.Logic.{_≢_}
 use mathlib.Core.List.{List, _++_}
@@ -18,12 +18,12 @@ use Rattle.base.specs.Drops.{drop-none, drop-one}
 use Rattle.selector.specs.Gates.{gateWords}
 use Rattle.pieces.specs.Records.{rowSize, tableSize}
 use Rattle.listing.specs.Listing.{Taken, off, after, records, section, fixed, headed, parameterWords, Words, eight, ended, sixSections, whole, refused, orTwenty, read}
-use Rattle.listing.specs.Ends.{endOf, longAt, fixedEnd, recordsEnd, sectionsAt, listingFrom}
+use Rattle.listing.specs.Ends.{endOf, longAt, fixedEnd, recordsEnd, listingFrom}
 use Rattle.listing.specs.Places.{wordsAt, partsOf}
 use Rattle.listing.specs.declared.sections.Sections.{Sections}
 use Rattle.listing.specs.declared.sections.Listing.{Listing}
 use Rattle.listing.specs.declared.sections.Listing.the-variants.{Whole, Refused}
-use Rattle.listing.specs.EndLaws.{Ends, end-from, end-fixed, fixed-past, records-past, late-parameters, wrong-count, late-gates, late-rows, late-s, late-cells, late-tables, found-whole}
+use Rattle.listing.specs.EndLaws.{Ends, end-from, end-fixed, late-parameters, wrong-count, late-gates, late-rows, late-s, late-cells, late-tables, found-whole}
 
 -- the words between two places, and those after them
 abbrev between : List ℕ → ℕ → ℕ → Taken
@@ -255,22 +255,3 @@ module _ (xs : List ℕ) where
       go : (l : Listing) → partsOf xs l ≡ refused n → l ≡ Refused n
       go (Whole s) h = absurd (let z : _≡_ {A = ℕ} 0 1 = cc in omega arith)
       go (Refused m) h = let k : m ≡ n = cc in ap Refused k
-
-  pub read-eight : (w : Words) → read xs ≡ whole w → length (w .parameters) ≡ parameterWords
-  read-eight w q = go (ℕ-discrete (g - 1) parameterWords) (ℕ-discrete e (length xs))
-    where
-      never : Refused 20 ≡ listingFrom xs 0 → ⊥
-      never h =
-          let k : refused 20 ≡ whole w = sym (read-refused 20 h) ∙ q in
-          let z : _≡_ {A = ℕ} 0 1 = cc in
-          omega arith
-
-      go : Dec (g - 1 ≡ parameterWords) → Dec (e ≡ length xs) → length (w .parameters) ≡ parameterWords
-      go (no k) d = absurd (never (wrong-count xs 0 g refl k))
-      go (yes k) (no d) = absurd (never (late-tables xs 0 g r s c t refl refl refl refl refl d))
-      go (yes k) (yes d) =
-          let six = found-whole xs 0 g r s c t e _ _ _ _ _ _ refl refl refl refl refl refl every k d in
-          let h : whole words ≡ whole w = sym (read-whole (sectionsAt 0 g r s c t e) six) ∙ q in
-          let same : take (g - 1) (drop 1 xs) ≡ w .parameters = cc in
-          let short : g ≤ length xs = omega (arith, fixed-past xs g gateWords, records-past xs r rowSize, fixed-past xs s 1, fixed-past xs c 1, records-past xs t tableSize) in
-          sym (ap length same) ∙ counted short ∙ k
