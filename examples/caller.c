@@ -40,9 +40,14 @@ static void accepted(const char *call, uint64_t number)
 static const uint64_t parameters[] = {2, 2, 1, 0, 2, 0, 0, 0};
 static const uint64_t gates[] = {0, 2, 1, 1, 0, 0};
 static const uint64_t rows[] = {0, 1, 5, 1, 0};
-static const uint64_t cells[] = {0, 1, 1, KINCHOYU_PLACEHOLDER};
+/* One cell, the other three, and finishing, as a list of calls: kind, number of words, words. */
+static const uint64_t list[] = {
+    KINCHOYU_CELLS, 1, 0,
+    KINCHOYU_CELLS, 3, 1, 1, KINCHOYU_PLACEHOLDER,
+    KINCHOYU_FINISH, 0,
+};
 
-/* Opens the columns, gives rows and cells, the cells in two pieces, and finishes. */
+/* Opens the columns, gives the rows, then the cells in two pieces and finishing as one list. */
 static void give(struct buffer plan, struct buffer constants, struct buffer copies)
 {
     struct buffer state = buffer(setup_state_words());
@@ -52,12 +57,13 @@ static void give(struct buffer plan, struct buffer constants, struct buffer copi
                                 scratch.words, scratch.length, tables.words, tables.length));
     accepted("rows", setup_rows(state.words, state.length, rows, WORDS(rows),
                                 constants.words, constants.length));
-    accepted("cells", setup_cells(state.words, state.length, cells, 1,
-                                  copies.words, copies.length, scratch.words, scratch.length));
-    accepted("cells", setup_cells(state.words, state.length, cells + 1, WORDS(cells) - 1,
-                                  copies.words, copies.length, scratch.words, scratch.length));
-    accepted("finish", setup_finish(state.words, state.length, copies.words, copies.length,
-                                    scratch.words, scratch.length));
+    uint64_t numbers[3];
+    accepted("calls", setup_calls(state.words, state.length, list, WORDS(list), numbers, WORDS(numbers),
+                                  constants.words, constants.length, copies.words, copies.length,
+                                  scratch.words, scratch.length, tables.words, tables.length));
+    for (size_t i = 0; i < WORDS(numbers); i++) {
+        accepted("a call of the list", numbers[i]);
+    }
     free(state.words);
     free(scratch.words);
     free(tables.words);

@@ -1,6 +1,10 @@
 -- The definitions on numerals.
-use mathlib.Core.List.{[], _∷_}
+use mathlib.Core.List.{List, [], _∷_}
 use mathlib.Core.Path.{_≡_, refl}
+use Prim.Native.Nat.{ℕ}
+use Rattle.calls.specs.Encoded.{callsFrom}
+use Rattle.pieces.specs.Setting.{Store}
+use Rattle.capi.specs.Calls.{ranOver}
 use Rattle.capi.specs.Planning.{planCall, planLeft, withRoom}
 
 -- 19 before 10, and 10 before 12
@@ -12,3 +16,9 @@ ranks = (refl, refl, refl, refl, refl)
 counts : (planCall (2 ∷ 2 ∷ 1 ∷ 0 ∷ 2 ∷ 0 ∷ 0 ∷ []) [] [] ≡ 20) × (planCall (2 ∷ 2 ∷ 1 ∷ 0 ∷ 2 ∷ 0 ∷ 0 ∷ 0 ∷ []) [] (5 ∷ []) ≡ 10) × (planLeft (2 ∷ 2 ∷ 1 ∷ 0 ∷ 2 ∷ 0 ∷ 0 ∷ 0 ∷ []) [] (5 ∷ []) ≡ 5 ∷ [])
 unfolding planCall planLeft
 counts = (refl, refl, refl)
+
+-- an unknown kind and a call that is cut short are 20, before 10 for the numbers; an empty list is 0
+lists : (ws : List ℕ) (b : Store)
+    → (ranOver ws (6 ∷ 0 ∷ []) [] b .answer .number ≡ 20) × (ranOver ws (5 ∷ 0 ∷ 1 ∷ 2 ∷ 0 ∷ []) [] b .answer .number ≡ 20) × (ranOver ws (5 ∷ 0 ∷ []) [] b .answer .number ≡ 10) × (ranOver ws [] [] b .answer .number ≡ 0)
+unfolding callsFrom
+lists ws b = (refl, refl, refl, refl)

@@ -1,18 +1,17 @@
 -- What opening and the calls after it leave in the state's words, and what opening answers. A later call's number and columns are those of `columns` for the
 -- state that its words encode.
 --
--- Main definitions: `openCall`, `openedState`, `openedStore`, `stateAfter`; `PlanThere`.
+-- Main definitions: `openCall`, `openedState`, `openedStore`, `stateAfter`, `progressAfter`.
 use Prim.Native.Nat.{ℕ}
 use lib.Dec.{eqb, leb}
 use lib.ListN.{length}
 use mathlib.Core.List.{List}
-use mathlib.Core.Path.{_≡_}
 use Rattle.base.specs.Pick.{pick}
 use Rattle.columns.specs.Intake.{openAnswer, openLeft}
 use Rattle.columns.specs.declared.intake.Taken.{Taken}
 use Rattle.pieces.specs.Setting.{Store}
 use Rattle.tree.specs.Plan.{planFault}
-use Rattle.encoding.specs.Encoding.{handed, intakeWords, planOf, planWords, stateLength}
+use Rattle.encoding.specs.Encoding.{handed, intakeWords, planOf, progressOf, progressed, stateLength}
 
 -- "Open: 19; 10; 9 candidates reach p." The state's slice is tested just before the columns.
 unfoldable pub openCall : List ℕ → List ℕ → Store → ℕ
@@ -31,6 +30,6 @@ openedStore ws state b = pick (leb stateLength (length state)) (openLeft (planOf
 unfoldable pub stateAfter : Taken → List ℕ → List ℕ
 stateAfter t old = pick (eqb (t .number) 0) (handed (intakeWords (t .state)) old) old
 
--- where a call is accepted the words that the state is written over start with those of its plan
-abbrev pub PlanThere : Taken → List ℕ → Type 0
-PlanThere t old = t .number ≡ 0 → handed (planWords (t .state .plan)) old ≡ old
+-- the same with the words of the plan as they were: no call after opening changes the plan
+unfoldable pub progressAfter : Taken → List ℕ → List ℕ
+progressAfter t old = pick (eqb (t .number) 0) (progressed (progressOf (t .state)) old) old

@@ -1,6 +1,6 @@
 -- Opening and the calls after it, case by case.
 --
--- Main statements: `state-given`, `progress-given`, `state-kept`; `rows-there`, `words-there`, `cells-there`, `tables-there`, `finish-there`; `open-short`,
+-- Main definitions: `PlanThere`. Main statements: `state-given`, `state-kept`; `progress-given`, `progress-kept`, `progress-state`, `passed`; `rows-there`, `words-there`, `cells-there`, `tables-there`, `finish-there`; `open-short`,
 -- `open-made-up`, `open-given`.
 use Prim.Native.Nat.{_<_, _≤_, ℕ}
 use borrow.Author.Tests.{eq-eqb, le-leb, lt-leb, ne-eqb}
@@ -20,6 +20,7 @@ use Rattle.columns.specs.declared.intake.Taken.{Taken}
 use Rattle.pieces.specs.Cells.{cellsNumber, cellsState}
 use Rattle.pieces.specs.Finishing.{finishNumber, finishedState}
 use Rattle.pieces.specs.Opening.{openNumber, openState, zeroState}
+use Rattle.pieces.specs.Records.{rowsOf}
 use Rattle.pieces.specs.Rows.{rowsNumber, rowsState}
 use Rattle.pieces.specs.SWords.{sWordsNumber, sWordsState}
 use Rattle.pieces.specs.Setting.{Cols, State, Store, stands}
@@ -28,32 +29,50 @@ use Rattle.tree.specs.Plan.{planFault, zeroPlan}
 use Rattle.tree.specs.declared.plan.Plan.{Plan}
 use Rattle.encoding.specs.Encoding.{handed, intakeOf, intakeWords, planOf, planWords, progressOf, progressed, stateLength}
 use Rattle.encoding.specs.EncodingLaws.{handed-short, plan-there, state-length, state-progressed}
-use Rattle.capi.specs.Intake.{PlanThere, openCall, openedState, openedStore, stateAfter}
+use Rattle.capi.specs.Lengths.{Long, long-like, marked-long, own-plan, used-long}
+use Rattle.capi.specs.Intake.{openCall, openedState, openedStore, progressAfter, stateAfter}
 
 -- ---- the state's words after a call
 pub state-given : (t : Taken) (old : List ℕ) → t .number ≡ 0 → handed (intakeWords (t .state)) old ≡ stateAfter t old
 unfolding stateAfter
 state-given t old e = sym (pick-yes (eqb (t .number) 0) (handed (intakeWords (t .state)) old) old (eq-eqb (t .number) 0 e))
 
--- where the plan's words are there already, all but them
-pub progress-given : (t : Taken) (old : List ℕ) → length (t .state .plan .gates) ≡ 384 → length (t .state .plan .nodes) ≡ 765 → length (t .state .used) ≡ 128
-    → PlanThere t old → t .number ≡ 0 → progressed (progressOf (t .state)) old ≡ stateAfter t old
-progress-given t old g n u h e = state-progressed (t .state) old g n u (h e) ∙ state-given t old e
+-- where a call is accepted its state has arrays of their lengths, and the words that it is written over start with those of its plan
+abbrev pub PlanThere : Taken → List ℕ → Type 0
+PlanThere t old = t .number ≡ 0 → Long (t .state) × (handed (planWords (t .state .plan)) old ≡ old)
+
+-- all but the plan's words are written, or nothing
+pub progress-given : (t : Taken) (old : List ℕ) → t .number ≡ 0 → progressed (progressOf (t .state)) old ≡ progressAfter t old
+unfolding progressAfter
+progress-given t old e = sym (pick-yes (eqb (t .number) 0) (progressed (progressOf (t .state)) old) old (eq-eqb (t .number) 0 e))
+
+pub progress-kept : (t : Taken) (old : List ℕ) → t .number ≢ 0 → old ≡ progressAfter t old
+unfolding progressAfter
+progress-kept t old d = sym (pick-no (eqb (t .number) 0) (progressed (progressOf (t .state)) old) old (ne-eqb (t .number) 0 d))
 
 pub state-kept : (t : Taken) (old : List ℕ) → t .number ≢ 0 → old ≡ stateAfter t old
 unfolding stateAfter
 state-kept t old d = sym (pick-no (eqb (t .number) 0) (handed (intakeWords (t .state)) old) old (ne-eqb (t .number) 0 d))
+
+-- and that is all of the state, where the plan's words are there already
+pub progress-state : (t : Taken) (old : List ℕ) → PlanThere t old → progressAfter t old ≡ stateAfter t old
+progress-state t old h = by (ℕ-discrete (t .number) 0)
+  where
+    by : Dec (t .number ≡ 0) → progressAfter t old ≡ stateAfter t old
+    by (yes e) = sym (progress-given t old e) ∙ state-progressed (t .state) old (h e .0 .plan .gates) (h e .0 .plan .nodes) (h e .0 .used) (h e .1) ∙ state-given t old e
+    by (no d) = sym (progress-kept t old d) ∙ state-kept t old d
 
 -- a call through the state's words is the call of the state that they encode
 pub passed : (answer : Intake → Taken) (ws : List ℕ) (s : Intake) (t : Taken) (r : ℕ) (w : List ℕ)
     → s ≡ intakeOf ws
     → t ≡ answer s
     → r ≡ t .number
-    → w ≡ stateAfter t ws
+    → w ≡ progressAfter t ws
+    → PlanThere t ws
     → (r ≡ answer (intakeOf ws) .number) × (w ≡ stateAfter (answer (intakeOf ws)) ws)
-passed answer ws s t r w es et er ew =
+passed answer ws s t r w es et er ew p =
     let e : t ≡ answer (intakeOf ws) = et ∙ ap answer es in
-    (er ∙ ap (λ (x : Taken). x .number) e, ew ∙ ap (λ (x : Taken). stateAfter x ws) e)
+    (er ∙ ap (λ (x : Taken). x .number) e, ew ∙ progress-state t ws p ∙ ap (λ (x : Taken). stateAfter x ws) e)
 
 -- ---- an accepted call finds the words of its plan in the state's
 answered-number : (n : ℕ) (s : Intake) (x : State) → answered n s x .number ≡ n
@@ -70,37 +89,57 @@ answered-plan n s x = by (eqb n 0)
     by true = refl
     by false = refl
 
--- an accepted call was given a state that stands, and keeps its plan
-answered-there : (ws : List ℕ) (s : Intake) (n : ℕ) (x : State) (t : Taken) → s ≡ intakeOf ws → t ≡ answered n s x → (stands (settingOf (s .plan)) (stateOf s) ≡ false → n ≡ 19)
-    → PlanThere t ws
-answered-there ws s n x t es et f z = by (stands (settingOf (s .plan)) (stateOf s)) refl
+answered-used : (n : ℕ) (s : Intake) (x : State) → length (x .used) ≡ 128 → length (s .used) ≡ 128 → length (answered n s x .state .used) ≡ 128
+answered-used n s x a b = by (eqb n 0)
   where
-    by : (b : Bool) → stands (settingOf (s .plan)) (stateOf s) ≡ b → handed (planWords (t .state .plan)) ws ≡ ws
+    by : (t : Bool) → length (pick t (record { number = 0; state = withState (s .plan) x }) (refusedWith n s) .state .used) ≡ 128
+    by true = a
+    by false = b
+
+-- an accepted call was given a state that stands, and keeps its plan
+answered-there : (ws : List ℕ) (s : Intake) (n : ℕ) (x : State) (t : Taken) → s ≡ intakeOf ws → t ≡ answered n s x → length (x .used) ≡ 128 → (stands (settingOf (s .plan)) (stateOf s) ≡ false → n ≡ 19)
+    → PlanThere t ws
+answered-there ws s n x t es et u f z = by (stands (settingOf (s .plan)) (stateOf s)) refl
+  where
+    plan-same : t .state .plan ≡ intakeOf ws .plan
+    plan-same = ap (λ (y : Taken). y .state .plan) et ∙ answered-plan n s x ∙ ap (λ (y : Intake). y .plan) es
+
+    used-before : length (s .used) ≡ 128
+    used-before = ap (λ (y : Intake). length (y .used)) es ∙ used-long ws
+
+    by : (b : Bool) → stands (settingOf (s .plan)) (stateOf s) ≡ b → Long (t .state) × (handed (planWords (t .state .plan)) ws ≡ ws)
     by false e = absurd (omega (arith, f e, answered-number n s x, ap (λ (y : Taken). y .number) et, z))
-    by true e =
-        ap (λ (q : Plan). handed (planWords q) ws) (ap (λ (y : Taken). y .state .plan) et ∙ answered-plan n s x ∙ ap (λ (y : Intake). y .plan) es)
-        ∙ plan-there ws (ap (λ (y : Intake). planFault (y .plan)) (sym es) ∙ plan-fine s e)
+    by true e = (
+      record {
+        plan = long-like (intakeOf ws .plan) (t .state .plan) (sym plan-same) (own-plan ws);
+        used = ap (λ (y : Taken). length (y .state .used)) et ∙ answered-used n s x u used-before;
+      },
+      ap (λ (q : Plan). handed (planWords q) ws) plan-same ∙ plan-there ws (ap (λ (y : Intake). planFault (y .plan)) (sym es) ∙ plan-fine s e),
+    )
 
 module _ (ws : List ℕ) (s : Intake) (t : Taken) (e : s ≡ intakeOf ws) where
+  still-long : length (s .used) ≡ 128
+  still-long = ap (λ (y : Intake). length (y .used)) e ∙ used-long ws
+
   pub rows-there : (piece b : List ℕ) → t ≡ rowsAnswer s piece b → PlanThere t ws
   unfolding rowsAnswer
-  rows-there piece b h = answered-there ws s (rowsNumber (settingOf (s .plan)) (stateOf s) piece b) (rowsState (stateOf s) piece) t e h (rows-19 s piece b)
+  rows-there piece b h = answered-there ws s (rowsNumber (settingOf (s .plan)) (stateOf s) piece b) (rowsState (stateOf s) piece) t e h (marked-long (s .used) (rowsOf piece) ∙ still-long) (rows-19 s piece b)
 
   pub words-there : (piece b : List ℕ) → t ≡ sWordsAnswer s piece b → PlanThere t ws
   unfolding sWordsAnswer
-  words-there piece b h = answered-there ws s (sWordsNumber (settingOf (s .plan)) (stateOf s) piece b) (sWordsState (stateOf s) piece) t e h (words-19 s piece b)
+  words-there piece b h = answered-there ws s (sWordsNumber (settingOf (s .plan)) (stateOf s) piece b) (sWordsState (stateOf s) piece) t e h still-long (words-19 s piece b)
 
   pub cells-there : (piece : List ℕ) (b : Cols) → t ≡ cellsAnswer s piece b → PlanThere t ws
   unfolding cellsAnswer
-  cells-there piece b h = answered-there ws s (cellsNumber (settingOf (s .plan)) (stateOf s) piece b) (cellsState (stateOf s) piece) t e h (cells-19 s piece b)
+  cells-there piece b h = answered-there ws s (cellsNumber (settingOf (s .plan)) (stateOf s) piece b) (cellsState (stateOf s) piece) t e h still-long (cells-19 s piece b)
 
   pub tables-there : (piece b : List ℕ) → t ≡ tablesAnswer s piece b → PlanThere t ws
   unfolding tablesAnswer
-  tables-there piece b h = answered-there ws s (tablesNumber (settingOf (s .plan)) (stateOf s) piece b) (tablesState (stateOf s) piece) t e h (tables-19 s piece b)
+  tables-there piece b h = answered-there ws s (tablesNumber (settingOf (s .plan)) (stateOf s) piece b) (tablesState (stateOf s) piece) t e h still-long (tables-19 s piece b)
 
   pub finish-there : (b : Cols) → t ≡ finishAnswer s b → PlanThere t ws
   unfolding finishAnswer
-  finish-there b h = answered-there ws s (finishNumber (settingOf (s .plan)) (stateOf s) b) (finishedState (stateOf s)) t e h (finish-19 s b)
+  finish-there b h = answered-there ws s (finishNumber (settingOf (s .plan)) (stateOf s) b) (finishedState (stateOf s)) t e h still-long (finish-19 s b)
 
 -- ---- opening
 -- the state that opening hands back has a state's words

@@ -1,6 +1,9 @@
 -- Functions for C and Rust: what each call answers and leaves.
 pub mod Planning
 pub mod Intake
+pub mod Calls
 pub mod PlanningLaws
+pub mod Lengths
 pub mod IntakeLaws
+pub mod CallsLaws
 mod Examples

@@ -4,7 +4,7 @@ ghost use mathlib.Core.Path.{_≡_};
 ghost use Rattle.pieces.specs.Setting.{cols};
 ghost use Rattle.columns.specs.Intake.{storeOf, rowsAnswer, rowsLeft, sWordsAnswer, sWordsLeft, cellsAnswer, cellsLeft, tablesAnswer, tablesLeft, finishAnswer, finishLeft};
 ghost use Rattle.encoding.specs.Encoding.{intakeOf};
-ghost use Rattle.capi.specs.Intake.{PlanThere, openCall, openedState, openedStore, stateAfter};
+ghost use Rattle.capi.specs.Intake.{openCall, openedState, openedStore, progressAfter, stateAfter};
 use columns::intake::Intake;
 use columns::intake::Taken;
 use encoding::encoding::STATE_WORDS;
@@ -15,10 +15,9 @@ use encoding::encoding::encode_state;
 
 // The number of a call. Where it is accepted the state's words are written, all but those of the
 // plan: they are there, since no call after opening changes the plan.
-fn give_back(taken: Taken, state: &mut [u64]) -> u64
-    requires { ⌜ PlanThere taken (now state) ⌝ }
+pub(crate) fn give_back(taken: Taken, state: &mut [u64]) -> u64
     ensures { λ r. ⌜ r ≡ taken .number ⌝ }
-    ensures { λ _. ⌜ now (state .exit) ≡ stateAfter taken (now (state .entry)) ⌝ }
+    ensures { λ _. ⌜ now (state .exit) ≡ progressAfter taken (now (state .entry)) ⌝ }
 {
     if taken.number == 0 {
         let used = taken.state.used;

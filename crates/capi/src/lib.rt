@@ -6,6 +6,7 @@ use encoding::encoding::PLAN_WORDS;
 use encoding::encoding::STATE_WORDS;
 
 pub mod intake;
+pub mod list;
 pub mod listed;
 pub mod planning;
 

@@ -41,7 +41,7 @@ pub fn plan_of(words: &[u64]) -> Plan {
     }
 }
 
-/// The state of any words; any word but 0 marks a gate as used.
+/// The state of any words.
 pub fn state_of(words: &[u64]) -> State {
     if words.len() != STATE_WORDS {
         return State::zero();
@@ -53,7 +53,7 @@ pub fn state_of(words: &[u64]) -> State {
         cells: words[COUNTS + 2],
         tables: words[COUNTS + 3],
         height: words[COUNTS + 4],
-        used: std::array::from_fn(|gate| words[USED + gate] != 0),
+        used: std::array::from_fn(|gate| words[USED + gate]),
         phase: words[PHASE],
     }
 }
@@ -61,7 +61,7 @@ pub fn state_of(words: &[u64]) -> State {
 pub fn state_words(state: &State) -> Vec<u64> {
     let mut words = plan_words(&state.plan);
     words.extend([state.rows, state.s_words, state.cells, state.tables, state.height]);
-    words.extend(state.used.iter().map(|used| *used as u64));
+    words.extend(state.used);
     words.push(state.phase);
     words
 }

@@ -1,4 +1,5 @@
 //! Good plans and states with one word changed, every word in turn.
+use crate::batches::Batch;
 use crate::circuit::Circuit;
 use crate::encoding::{GATE_COUNT, NODE_COUNT, PHASE, PLAN_WORDS, STATE_WORDS, USED};
 use crate::figures::Figures;
@@ -57,9 +58,12 @@ fn plans(f: &mut Figures, sides: &Sides) -> Result<(), String> {
 }
 
 /// Every call that reads a state, for each value in each place, with what comes next.
-fn states(f: &mut Figures, sides: &Sides, rest: &Rest) -> Result<(), String> {
+fn states(r: &mut Random, f: &mut Figures, sides: &Sides, rest: &Rest) -> Result<(), String> {
     let pieces = SECTIONS.map(|section| rest.all(section));
-    let mut calls = vec![Call::Finish];
+    let mut all = Batch::default();
+    SECTIONS.iter().zip(&pieces).for_each(|(section, piece)| all.piece(*section, piece));
+    all.finish(r);
+    let mut calls = vec![Call::Finish, Call::Calls(&all.words)];
     calls.extend(SECTIONS.iter().zip(&pieces).map(|(section, piece)| section.call(piece)));
     let mut aside = sides.clone();
     for place in 0..STATE_WORDS {
@@ -92,11 +96,11 @@ fn mode(f: &mut Figures, mode: u64) -> Result<(), String> {
         let piece = rest.piece(&mut r, section);
         accepted(&mut sides, f, section.call(&piece))?;
     }
-    states(f, &sides, &rest)?;
+    states(&mut r, f, &sides, &rest)?;
     for section in SECTIONS {
         accepted(&mut sides, f, section.call(&rest.all(section)))?;
     }
-    states(f, &sides, &Rest::default())
+    states(&mut r, f, &sides, &Rest::default())
 }
 
 pub fn run(f: &mut Figures) -> Result<(), String> {

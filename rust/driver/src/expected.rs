@@ -15,9 +15,12 @@ fn short(words: &[u64], out: &[u64]) -> bool {
     out.len() < words.len()
 }
 
-/// 20, 10, then 1 to 8, which leave a plan of zeros.
+/// 20, 10, then 1 to 8; 20 and 1 to 8 leave a plan of zeros.
 pub fn plan(parameters: &[u64], gates: &[u64], out: &mut [u64]) -> u64 {
-    let Ok(parameters) = parameters.try_into() else { return 20 };
+    let Ok(parameters) = parameters.try_into() else {
+        hand(&plan_words(&Plan::zero()), out);
+        return 20;
+    };
     if out.len() < PLAN_WORDS {
         return 10;
     }
@@ -102,28 +105,14 @@ fn taken(after: Result<State, u64>, words: &mut [u64]) -> u64 {
     match after {
         Err(number) => number,
         Ok(after) => {
-            let marks = words[USED..PHASE].to_vec();
             hand(&state_words(&after), words);
-            // only rows mark gates: see there
-            words[USED..PHASE].copy_from_slice(&marks);
             0
         }
     }
 }
 
 pub fn rows(state: &mut [u64], piece: &[u64], constants: &mut [u64]) -> u64 {
-    let mut before = state_of(state);
-    // started without marks, the model shows which gates this piece marks; a mark is 1
-    before.used.fill(false);
-    let after = model::rows(&before, piece, constants);
-    let marked = after.as_ref().map(|after| after.used);
-    let number = taken(after.clone(), state);
-    for (gate, used) in marked.into_iter().flatten().enumerate() {
-        if used {
-            state[USED + gate] = 1;
-        }
-    }
-    number
+    taken(model::rows(&state_of(state), piece, constants), state)
 }
 
 pub fn s_words(state: &mut [u64], piece: &[u64], constants: &mut [u64]) -> u64 {
@@ -142,6 +131,20 @@ pub fn tables(state: &mut [u64], piece: &[u64], tables: &mut [u64]) -> u64 {
 /// the library's.
 pub fn finish(state: &mut [u64], copies: &mut [u64], scratch: &mut [u64]) -> u64 {
     taken(model::finish(&state_of(state), copies, scratch), state)
+}
+
+/// Words of another number than a state's stay as they were: every call of the list is 19.
+pub fn calls(
+    state: &mut [u64],
+    list: &[u64],
+    numbers: &mut [u64],
+    [constants, copies, scratch, tables]: [&mut [u64]; 4],
+) -> u64 {
+    let before = state_of(state);
+    match model::run_calls(&before, list, numbers, constants, copies, scratch, tables) {
+        Ok(_) if state.len() != STATE_WORDS => 0,
+        after => taken(after, state),
+    }
 }
 
 /// A refused listing leaves every word as it was.

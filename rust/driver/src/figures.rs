@@ -12,6 +12,8 @@ pub struct Figures {
     words: u64,
     by_name: BTreeMap<&'static str, u64>,
     by_number: BTreeMap<u64, u64>,
+    /// Calls in lists, by number.
+    by_listed: BTreeMap<u64, u64>,
     by_trace: BTreeMap<u64, u64>,
     by_mode: BTreeMap<u64, u64>,
 }
@@ -26,6 +28,7 @@ impl Figures {
             words: 0,
             by_name: BTreeMap::new(),
             by_number: BTreeMap::new(),
+            by_listed: BTreeMap::new(),
             by_trace: BTreeMap::new(),
             by_mode: BTreeMap::new(),
         }
@@ -44,6 +47,12 @@ impl Figures {
         *self.by_number.entry(number).or_default() += 1;
     }
 
+    pub fn in_lists(&mut self, numbers: &[u64]) {
+        for number in numbers {
+            *self.by_listed.entry(*number).or_default() += 1;
+        }
+    }
+
     /// Which of the refusals that random calls reach were not met. 9 is reached by no circuit.
     pub fn unmet(&self) -> Vec<u64> {
         (1..=20).filter(|number| *number != 9 && !self.by_number.contains_key(number)).collect()
@@ -58,14 +67,21 @@ impl Figures {
         );
         let names: Vec<String> = self.by_name.iter().map(|(x, n)| format!("{x} {n}")).collect();
         println!("  calls: {}", names.join(", "));
-        let mut refused = self.by_number.clone();
-        let accepted = refused.remove(&0).unwrap_or(0);
-        println!("  accepted: {accepted}; refused by number: {}", listed(&refused));
+        println!("  {}", accepted_and_refused(&self.by_number));
+        if !self.by_listed.is_empty() {
+            println!("  in lists of calls: {}", accepted_and_refused(&self.by_listed));
+        }
         if self.circuits > 0 {
             println!("  circuits by mode: {}", listed(&self.by_mode));
             println!("  circuits by N: {}", listed(&self.by_trace));
         }
     }
+}
+
+fn accepted_and_refused(by_number: &BTreeMap<u64, u64>) -> String {
+    let mut refused = by_number.clone();
+    let accepted = refused.remove(&0).unwrap_or(0);
+    format!("accepted: {accepted}; refused by number: {}", listed(&refused))
 }
 
 fn listed(counts: &BTreeMap<u64, u64>) -> String {

@@ -10,6 +10,7 @@
 //! Every word of every buffer is compared after every call. Fails at the first difference, with
 //! the seed and the number of the circuit: `random 1 SEED NUMBER` makes that one alone. Built
 //! without the original (no cfg upstream) it compares with the model alone.
+mod batches;
 mod encoding;
 mod ends;
 mod every_word;

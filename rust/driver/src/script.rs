@@ -1,12 +1,12 @@
-//! All calls of one circuit: planned, opened, given in random pieces and finished, with stray
-//! calls among them.
+//! All calls of one circuit: planned, opened, given in random pieces, one by one or as lists, and
+//! finished, with stray calls among them.
 use crate::circuit::Circuit;
 use crate::encoding::{plan_of, PLAN_WORDS, STATE_WORDS};
 use crate::figures::Figures;
 use crate::random::Random;
 use crate::rest::{Rest, SECTIONS};
 use crate::sides::{Call, Sides, PLAN, STATE};
-use crate::{strays, whole};
+use crate::{batches, strays, whole};
 use model::columns::{constants_length, copies_length, scratch_length, tables_length};
 
 /// Makes a call that has to be accepted.
@@ -71,6 +71,13 @@ pub fn run(r: &mut Random, figures: &mut Figures, x: &Circuit) -> Result<Option<
         if r.once_in(3) {
             strays::between(r, &mut sides, figures, x, &rest, named)?;
         }
+        if r.once_in(4) {
+            batches::stray(r, &sides, figures, x, &rest, named)?;
+        }
+        if r.once_in(4) {
+            batches::next(r, &mut sides, figures, &mut rest)?;
+            continue;
+        }
         let section = r.pick(&SECTIONS);
         let piece = rest.piece(r, section);
         accepted(&mut sides, figures, section.call(&piece))?;
@@ -78,7 +85,11 @@ pub fn run(r: &mut Random, figures: &mut Figures, x: &Circuit) -> Result<Option<
     for _ in 0..r.within(0, 2) {
         strays::between(r, &mut sides, figures, x, &rest, named)?;
     }
-    accepted(&mut sides, figures, Call::Finish)?;
+    if r.once_in(3) {
+        batches::finish(r, &mut sides, figures)?;
+    } else {
+        accepted(&mut sides, figures, Call::Finish)?;
+    }
     let late = r.pick(&[Call::Rows(&[]), Call::SWords(&[]), Call::Cells(&[]), Call::Finish]);
     match sides.make(figures, late)? {
         19 => {}

@@ -5,6 +5,7 @@ use crate::expected;
 use crate::figures::Figures;
 use crate::random::Random;
 use kinchoyu::raw;
+use model::calls::calls_of;
 
 /// A call of the library. Plan, state, columns and results are the side's own buffers.
 #[derive(Clone, Copy, Debug)]
@@ -20,6 +21,7 @@ pub enum Call<'a> {
     Cells(&'a [u64]),
     Tables(&'a [u64]),
     Finish,
+    Calls(&'a [u64]),
     Run(&'a [u64]),
 }
 
@@ -37,6 +39,7 @@ impl Call<'_> {
             Call::Cells(_) => "cells",
             Call::Tables(_) => "tables",
             Call::Finish => "finish",
+            Call::Calls(_) => "calls",
             Call::Run(_) => "run",
         }
     }
@@ -46,23 +49,29 @@ impl Call<'_> {
 pub const PLAN: usize = 0;
 pub const STATE: usize = 1;
 pub const OUT: usize = 2;
-pub const CONSTANTS: usize = 3;
-pub const COPIES: usize = 4;
-pub const SCRATCH: usize = 5;
-pub const TABLES: usize = 6;
-pub const NAMES: [&str; 7] = ["plan", "state", "out", "constants", "copies", "scratch", "tables"];
+pub const NUMBERS: usize = 3;
+pub const CONSTANTS: usize = 4;
+pub const COPIES: usize = 5;
+pub const SCRATCH: usize = 6;
+pub const TABLES: usize = 7;
+pub const NAMES: [&str; 8] =
+    ["plan", "state", "out", "numbers", "constants", "copies", "scratch", "tables"];
 
-pub type Buffers = [Vec<u64>; 7];
+/// Room for the numbers of the longest list of calls.
+pub const MOST_CALLS: usize = 24;
+
+pub type Buffers = [Vec<u64>; 8];
 
 /// Both sides, and how many words of each buffer the next call is lent.
 #[derive(Clone)]
 pub struct Sides {
     pub library: Buffers,
     pub model: Buffers,
-    pub lent: [usize; 7],
+    pub lent: [usize; 8],
 }
 
-fn by_library(call: Call, [plan, state, out, constants, copies, scratch, tables]: Lent) -> u64 {
+fn by_library(call: Call, lent: Lent) -> u64 {
+    let [plan, state, out, numbers, constants, copies, scratch, tables] = lent;
     match call {
         Call::Plan(parameters, gates) => raw::plan(parameters, gates, plan),
         Call::Stats => raw::stats(plan, out),
@@ -75,11 +84,13 @@ fn by_library(call: Call, [plan, state, out, constants, copies, scratch, tables]
         Call::Cells(piece) => raw::cells(state, piece, copies, scratch),
         Call::Tables(piece) => raw::tables(state, piece, tables),
         Call::Finish => raw::finish(state, copies, scratch),
+        Call::Calls(list) => raw::calls(state, list, numbers, constants, copies, scratch, tables),
         Call::Run(listing) => raw::run(listing, constants, copies, scratch, tables),
     }
 }
 
-fn by_model(call: Call, [plan, state, out, constants, copies, scratch, tables]: Lent) -> u64 {
+fn by_model(call: Call, lent: Lent) -> u64 {
+    let [plan, state, out, numbers, constants, copies, scratch, tables] = lent;
     match call {
         Call::Plan(parameters, gates) => expected::plan(parameters, gates, plan),
         Call::Stats => expected::stats(plan, out),
@@ -92,13 +103,16 @@ fn by_model(call: Call, [plan, state, out, constants, copies, scratch, tables]: 
         Call::Cells(piece) => expected::cells(state, piece, copies, scratch),
         Call::Tables(piece) => expected::tables(state, piece, tables),
         Call::Finish => expected::finish(state, copies, scratch),
+        Call::Calls(list) => {
+            expected::calls(state, list, numbers, [constants, copies, scratch, tables])
+        }
         Call::Run(listing) => expected::run(listing, constants, copies, scratch, tables),
     }
 }
 
-type Lent<'a> = [&'a mut [u64]; 7];
+type Lent<'a> = [&'a mut [u64]; 8];
 
-fn lend<'a>(buffers: &'a mut Buffers, lent: &[usize; 7]) -> Lent<'a> {
+fn lend<'a>(buffers: &'a mut Buffers, lent: &[usize; 8]) -> Lent<'a> {
     let mut lent = lent.iter();
     buffers.each_mut().map(|buffer| &mut buffer[..*lent.next().unwrap()])
 }
@@ -110,11 +124,11 @@ pub fn junk(r: &mut Random, length: usize) -> Vec<u64> {
 }
 
 impl Sides {
-    /// Room for a plan, a state and results, and no columns yet.
+    /// Room for a plan, a state, results and numbers, and no columns yet.
     pub fn new(r: &mut Random) -> Sides {
-        let lengths = [PLAN_WORDS + 3, STATE_WORDS + 3, 6, 0, 0, 0, 0];
+        let lengths = [PLAN_WORDS + 3, STATE_WORDS + 3, 6, MOST_CALLS + 2, 0, 0, 0, 0];
         let library = lengths.map(|length| junk(r, length));
-        let lent = [PLAN_WORDS, STATE_WORDS, 3, 0, 0, 0, 0];
+        let lent = [PLAN_WORDS, STATE_WORDS, 3, MOST_CALLS, 0, 0, 0, 0];
         Sides { model: library.clone(), library, lent }
     }
 
@@ -144,6 +158,10 @@ impl Sides {
         let number = by_library(call, lend(&mut self.library, &self.lent));
         let wanted = by_model(call, lend(&mut self.model, &self.lent));
         figures.call(call.name(), number, self.library.iter().map(|buffer| buffer.len()).sum());
+        if let (Call::Calls(list), 0) = (call, number) {
+            let made = calls_of(list).map_or(0, |calls| calls.len());
+            figures.in_lists(&self.library[NUMBERS][..made]);
+        }
         let what = match self.difference() {
             None if number == wanted => return Ok(number),
             None => "the words are equal".to_string(),
@@ -154,7 +172,7 @@ impl Sides {
     }
 
     fn difference(&self) -> Option<String> {
-        let buffer = (0..7).find(|buffer| self.library[*buffer] != self.model[*buffer])?;
+        let buffer = (0..8).find(|buffer| self.library[*buffer] != self.model[*buffer])?;
         let (library, model) = (&self.library[buffer], &self.model[buffer]);
         let place = (0..library.len()).find(|place| library[*place] != model[*place])?;
         let (left, wanted) = (library[place], model[place]);

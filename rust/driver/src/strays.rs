@@ -9,7 +9,7 @@ use crate::sides::*;
 use model::field::P;
 
 /// Copies of longer columns than this take too long to be made often.
-const MOST_COPIED: usize = 20000;
+pub const MOST_COPIED: usize = 20000;
 
 /// Another value for a word: near it, at an end, or with one bit turned.
 pub fn other(r: &mut Random, word: u64) -> u64 {
@@ -39,7 +39,7 @@ pub fn place(r: &mut Random, length: usize) -> usize {
 }
 
 /// Another word on both sides.
-fn change(r: &mut Random, sides: &mut Sides, buffer: usize, place: usize) {
+pub fn change(r: &mut Random, sides: &mut Sides, buffer: usize, place: usize) {
     let word = other(r, sides.library[buffer][place]);
     sides.set(buffer, place, word);
 }
@@ -76,7 +76,7 @@ fn fault(r: &mut Random, x: &Circuit, section: Section) -> Vec<u64> {
 }
 
 /// Some of what is next, or all of it, and then a fault or one record too many.
-fn faulty(r: &mut Random, x: &Circuit, rest: &Rest, section: Section) -> Vec<u64> {
+pub fn faulty(r: &mut Random, x: &Circuit, rest: &Rest, section: Section) -> Vec<u64> {
     if r.once_in(3) {
         let more: &[u64] = match section {
             Section::Rows => &[0, 0],

@@ -80,6 +80,22 @@ extern "C" {
         tables: *mut u64,
         tables_length: usize,
     ) -> u64;
+    pub fn setup_calls(
+        state: *mut u64,
+        state_length: usize,
+        list: *const u64,
+        list_length: usize,
+        numbers: *mut u64,
+        numbers_length: usize,
+        constants: *mut u64,
+        constants_length: usize,
+        copies: *mut u64,
+        copies_length: usize,
+        scratch: *mut u64,
+        scratch_length: usize,
+        tables: *mut u64,
+        tables_length: usize,
+    ) -> u64;
     pub fn setup_run(
         listing: *const u64,
         listing_length: usize,

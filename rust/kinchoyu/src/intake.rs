@@ -1,4 +1,5 @@
 //! The intake: an opened circuit that takes its sections piece by piece.
+use crate::calls::Calls;
 use crate::columns::Lent;
 use crate::plan::Plan;
 use crate::raw;
@@ -111,12 +112,48 @@ impl<'a> Intake<'a> {
         for row in rows {
             let row = row.as_ref();
             if row.len() as u64 != width {
+                // 19 and 10 come before 15: an empty piece tests for them and changes nothing
+                self.tables(&[])?;
                 return Err(Refusal::Table);
             }
             piece[1] += 1;
             piece.extend(row);
         }
         self.tables(&piece)
+    }
+
+    /// Makes the calls of a list in order, in one call of the library. Each has its own answer;
+    /// after a refused one the others are made all the same, as if it had not been in the list.
+    ///
+    /// ```
+    /// use kinchoyu::{Calls, Columns, Gate, Intake, Lookup, Parameters, Plan, Refusal};
+    ///
+    /// let parameters = Parameters {
+    ///     trace: 1,
+    ///     copy: 2,
+    ///     allowed: 0,
+    ///     specialised: 0,
+    ///     variables: 1,
+    ///     lookup: Lookup::None,
+    /// };
+    /// let plan = Plan::new(&parameters, &[Gate::Marker])?;
+    /// let mut columns = Columns::new(&plan);
+    /// let mut intake = Intake::open(&plan, columns.lend())?;
+    /// let mut list = Calls::new();
+    /// list.rows(&[0, 0]).cells(&[0]).cells(&[1]).cells(&[0]).finish();
+    /// let answers = intake.calls(&list);
+    /// assert_eq!(answers, [Ok(()), Ok(()), Err(Refusal::Variable), Ok(()), Ok(())]);
+    /// # Ok::<(), Refusal>(())
+    /// ```
+    pub fn calls(&mut self, list: &Calls) -> Vec<Result<(), Refusal>> {
+        let mut numbers = vec![0; list.len()];
+        let Lent { constants, copies, scratch, tables } = &mut self.lent;
+        let state = &mut self.state;
+        let number =
+            raw::calls(state, list.words(), &mut numbers, constants, copies, scratch, tables);
+        // 20 and 10 are for words that are no list and for short numbers
+        answer(number).expect("a list of calls, with room for its numbers");
+        numbers.into_iter().map(answer).collect()
     }
 
     /// Closes every variable's cycle. Refusals 16, 17, 18; after an accepted one every call is

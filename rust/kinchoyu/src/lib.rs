@@ -35,6 +35,7 @@
 //! # Ok::<(), Refusal>(())
 //! ```
 mod c;
+mod calls;
 mod columns;
 mod intake;
 mod listing;
@@ -43,6 +44,7 @@ mod plan;
 pub mod raw;
 mod refusal;
 
+pub use calls::Calls;
 pub use columns::{Columns, Lengths, Lent};
 pub use intake::{Cell, Intake};
 pub use listing::{run, run_in};

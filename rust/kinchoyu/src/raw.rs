@@ -161,6 +161,38 @@ pub fn finish(state: &mut [u64], copies: &mut [u64], scratch: &[u64]) -> u64 {
     }
 }
 
+/// A list of calls in one call: for each its kind (1 rows, 2 S words, 3 cells, 4 tables,
+/// 5 finishing), the number of its words, and the words.
+pub fn calls(
+    state: &mut [u64],
+    list: &[u64],
+    numbers: &mut [u64],
+    constants: &mut [u64],
+    copies: &mut [u64],
+    scratch: &mut [u64],
+    tables: &mut [u64],
+) -> u64 {
+    // SAFETY: pointers and lengths of references, as said above.
+    unsafe {
+        c::setup_calls(
+            state.as_mut_ptr(),
+            state.len(),
+            list.as_ptr(),
+            list.len(),
+            numbers.as_mut_ptr(),
+            numbers.len(),
+            constants.as_mut_ptr(),
+            constants.len(),
+            copies.as_mut_ptr(),
+            copies.len(),
+            scratch.as_mut_ptr(),
+            scratch.len(),
+            tables.as_mut_ptr(),
+            tables.len(),
+        )
+    }
+}
+
 /// A whole listing in one call.
 pub fn run(
     listing: &[u64],

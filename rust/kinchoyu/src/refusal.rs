@@ -51,7 +51,7 @@ const ALL: [(Refusal, &str); 20] = [
     ),
     (Incomplete, "rows, S words or cells are missing"),
     (UnusedGate, "a gate is in no row"),
-    (Scratch, "the scratch words are not those of any cells"),
+    (Scratch, "a scratch value is not below p, or a seen variable's first cell is outside"),
     (MadeUp, "the plan or the state is made up, never opened, or finished"),
     (
         Listing,

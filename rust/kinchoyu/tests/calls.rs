@@ -150,3 +150,70 @@ fn an_index_of_more_than_48_bits_is_refused_and_not_cut() {
     }
     assert_eq!(intake.table_from(2, [[1, 2].as_slice(), &[3]]), Err(Refusal::Table));
 }
+
+#[test]
+fn a_list_of_calls_leaves_what_its_calls_leave() {
+    let plan = plan();
+    let (mut listed, mut single) = (Columns::new(&plan), Columns::new(&plan));
+    let mut list = Calls::new();
+    assert!(list.is_empty());
+    list.s_words(&[1, 2, 3, 4]).rows(&[0, 1, 6, 0, 1, 7]).rows(&[2, 0]).rows(&[1, 0, 0, 0]);
+    list.tables(&[2, 2, 1, 2, 3, 4, 2, 0, 2, 1, 5, 6]).finish().cells(&[2, 1 << 63, 2, 0]);
+    list.finish().finish();
+    assert_eq!(list.len(), 9);
+    assert_eq!(list.words()[..8], [2, 4, 1, 2, 3, 4, 1, 6]);
+    let mut intake = Intake::open(&plan, listed.lend()).unwrap();
+    let mut answers = vec![Ok(()); 9];
+    answers[2] = Err(Refusal::RowRecord);
+    answers[5] = Err(Refusal::Incomplete);
+    answers[8] = Err(Refusal::MadeUp);
+    assert_eq!(intake.calls(&list), answers);
+    assert_eq!(intake.calls(&Calls::new()), []);
+    let state = intake.state().to_vec();
+    let mut intake = Intake::open(&plan, single.lend()).unwrap();
+    fill(&mut intake).unwrap();
+    intake.cells(&[0]).unwrap();
+    intake.finish().unwrap();
+    assert_eq!(state, intake.state());
+    assert_eq!(listed, single);
+}
+
+#[test]
+fn words_that_are_no_list_are_refused_and_write_nothing() {
+    let plan = plan();
+    let mut columns = Columns::new(&plan);
+    let intake = Intake::open(&plan, columns.lend()).unwrap();
+    let opened = intake.state().to_vec();
+    let mut state = opened.clone();
+    let Lent { constants, copies, scratch, tables } = columns.lend();
+    let mut numbers = [77; 2];
+    for (list, number) in [
+        (&[1][..], 20),
+        (&[0, 0], 20),
+        (&[6, 0], 20),
+        (&[1, 2, 0], 20),
+        (&[3, u64::MAX, 0], 20),
+        (&[3, 1, 2, 7, 0], 20),
+        (&[3, 1, 2, 5, 0, 5, 0], 10),
+    ] {
+        let met = raw::calls(&mut state, list, &mut numbers, constants, copies, scratch, tables);
+        assert_eq!(met, number, "{list:?}");
+    }
+    assert_eq!((numbers, &state), ([77; 2], &opened));
+    // and with words of another number than a state's every call is 19
+    state.push(5);
+    let met = raw::calls(&mut state, &[3, 1, 2], &mut numbers, constants, copies, scratch, tables);
+    assert_eq!((met, numbers, &state[..1296]), (0, [19, 77], &opened[..]));
+}
+
+#[test]
+fn a_row_of_another_length_is_15_only_while_the_intake_is_open() {
+    let plan = plan();
+    let mut columns = Columns::new(&plan);
+    let mut intake = Intake::open(&plan, columns.lend()).unwrap();
+    fill(&mut intake).unwrap();
+    intake.cells(&[0]).unwrap();
+    assert_eq!(intake.table_from(2, [[1]]), Err(Refusal::Table));
+    intake.finish().unwrap();
+    assert_eq!(intake.table_from(2, [[1]]), Err(Refusal::MadeUp));
+}

@@ -21,8 +21,8 @@ pub struct State {
     pub tables: u64,
     /// Rows of the tables stacked so far.
     pub height: u64,
-    /// Which gates some row has used.
-    pub used: [bool; MOST_GATES],
+    /// A mark for each gate: 0 where no row has used it.
+    pub used: [u64; MOST_GATES],
     /// Never opened 0, open 1, finished 2.
     pub phase: u64,
 }
@@ -37,7 +37,7 @@ impl State {
             cells: 0,
             tables: 0,
             height: 0,
-            used: [false; MOST_GATES],
+            used: [0; MOST_GATES],
             phase: NEVER,
         }
     }
@@ -153,7 +153,7 @@ pub fn rows(state: &State, piece: &[u64], constants: &mut [u64]) -> Result<State
         row.extend(row_constants);
         row.resize(state.plan.k as usize, 0);
         written.push((after.rows, row));
-        after.used[gate as usize] = true;
+        after.used[gate as usize] = 1;
         after.rows += 1;
         words = rest;
     }
@@ -297,7 +297,7 @@ pub fn finish(state: &State, copies: &mut [u64], scratch: &mut [u64]) -> Result<
     if state.rows < p.n || state.s_words < p.s * p.n || state.cells < p.c * p.n {
         return Err(16);
     }
-    if gates.iter().any(|gate| !state.used[gate.index]) {
+    if gates.iter().any(|gate| state.used[gate.index] == 0) {
         return Err(17);
     }
     if !scratch_good(&p, scratch) {

@@ -4,6 +4,7 @@
 //!
 //! A refusal is its number: `Err(number)`. A refused call writes no word and the
 //! state given stands.
+pub mod calls;
 pub mod columns;
 pub mod field;
 pub mod gates;
@@ -12,6 +13,7 @@ pub mod listing;
 pub mod plan;
 pub mod search;
 
+pub use calls::run_calls;
 pub use columns::{cells, finish, open, rows, s_words, tables, State};
 pub use listing::{program, run_listing};
 pub use plan::{path, plan, table_id, Plan};

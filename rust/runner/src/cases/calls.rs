@@ -37,7 +37,7 @@ pub fn rows(c: &mut Checks) {
     let (state, mut b) = opened([4, 1, 1, 0, 0, 0, 0, 0], &p7);
     let state = model::rows(&state, &[0, 1, 5, 1, 0, 2, 0, 2, 0], &mut b.constants).unwrap();
     c.same("P7", &b.constants[..9], &[1, 0, 0, 0, 5, 1, 0, 0, 99]);
-    c.same("P7's state", (state.rows, &state.used[..4]), (4, &[true, true, true, false][..]));
+    c.same("P7's state", (state.rows, &state.used[..4]), (4, &[1, 1, 1, 0][..]));
     let four = [4, 1, 1, 0, 0, 0, 0, 0];
     let two = [2, 1, 1, 0, 0, 0, 0, 0];
     let lone = [0, 1, 1];
@@ -185,7 +185,7 @@ pub fn states(c: &mut Checks) {
 /// Finishing with this scratch, all sections full, every gate used.
 fn finished(scratch: &[u64]) -> Result<Vec<u64>, u64> {
     let (state, mut b) = opened([2, 2, 0, 0, 2, 0, 0, 0], &[1, 0, 0]);
-    let state = State { rows: 2, cells: 4, used: [true; 128], ..state };
+    let state = State { rows: 2, cells: 4, used: [1; 128], ..state };
     b.scratch[..scratch.len()].copy_from_slice(scratch);
     let before = b.scratch.clone();
     let after = model::finish(&state, &mut b.copies, &mut b.scratch)?;

@@ -16,8 +16,7 @@ cells-requires : tie.Need-cells-requires
 cells-requires c κs = search needs
 
 give-back-requires : tie.Need-give-back-requires
-give-back-requires c κs =
-    cells-there _ _ _ (c .before .before .before .before .before .before .before .before .decode-state .ensures) _ _ (c .before .before .before .before .before .cells .ensures .0)
+give-back-requires c κs = search needs
 
 same-length : tie.Need-same-length
 same-length c = search needs
@@ -35,7 +34,7 @@ returns c =
     let e = c .before .before .before .before .before .before .before .before .before .before .before .decode-state .ensures in
     let t = c .before .before .before .before .before .before .before .before .cells .ensures in
     let g = c .before .before .give-back .ensures in
-    let k = passed (λ (s : Intake). cellsAnswer s (a .piece .now) b) (a .state .now) _ _ _ _ e (t .0) (g .0) (g .1) in
+    let k = passed (λ (s : Intake). cellsAnswer s (a .piece .now) b) (a .state .now) _ _ _ _ e (t .0) (g .0) (g .1) (cells-there _ _ _ e _ _ (t .0)) in
     (k .0, (k .1, t .1 ∙ ap (λ (s : Intake). cellsLeft s (a .piece .now) b) e))
 
 pub setup-cells-spec : {M : Type 1} → statement M

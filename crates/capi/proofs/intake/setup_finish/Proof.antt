@@ -16,8 +16,7 @@ finish-requires : tie.Need-finish-requires
 finish-requires c κs = search needs
 
 give-back-requires : tie.Need-give-back-requires
-give-back-requires c κs =
-    finish-there _ _ _ (c .before .before .before .before .before .decode-state .ensures) _ (c .before .before .before .finish .ensures .0)
+give-back-requires c κs = search needs
 
 same-length : tie.Need-same-length
 same-length c = search needs
@@ -32,7 +31,7 @@ returns c =
     let e = c .before .before .before .before .before .before .before .before .decode-state .ensures in
     let t = c .before .before .before .before .before .before .finish .ensures in
     let g = c .before .before .give-back .ensures in
-    let k = passed (λ (s : Intake). finishAnswer s b) (a .state .now) _ _ _ _ e (t .0) (g .0) (g .1) in
+    let k = passed (λ (s : Intake). finishAnswer s b) (a .state .now) _ _ _ _ e (t .0) (g .0) (g .1) (finish-there _ _ _ e _ (t .0)) in
     (k .0, (k .1, t .1 ∙ ap (λ (s : Intake). finishLeft s b) e))
 
 pub setup-finish-spec : {M : Type 1} → statement M

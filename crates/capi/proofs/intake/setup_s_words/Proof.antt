@@ -15,8 +15,7 @@ s-words-requires : tie.Need-s-words-requires
 s-words-requires c κs = search needs
 
 give-back-requires : tie.Need-give-back-requires
-give-back-requires c κs =
-    words-there _ _ _ (c .before .before .before .before .before .decode-state .ensures) _ _ (c .before .before .before .s-words .ensures .0)
+give-back-requires c κs = search needs
 
 same-length : tie.Need-same-length
 same-length c = search needs
@@ -30,7 +29,7 @@ returns c =
     let e = c .before .before .before .before .before .before .before .before .decode-state .ensures in
     let t = c .before .before .before .before .before .before .s-words .ensures in
     let g = c .before .before .give-back .ensures in
-    let k = passed (λ (s : Intake). sWordsAnswer s (a .piece .now) (a .constants .now)) (a .state .now) _ _ _ _ e (t .0) (g .0) (g .1) in
+    let k = passed (λ (s : Intake). sWordsAnswer s (a .piece .now) (a .constants .now)) (a .state .now) _ _ _ _ e (t .0) (g .0) (g .1) (words-there _ _ _ e _ _ (t .0)) in
     (k .0, (k .1, t .1 ∙ ap (λ (s : Intake). sWordsLeft s (a .piece .now) (a .constants .now)) e))
 
 pub setup-s-words-spec : {M : Type 1} → statement M

@@ -15,8 +15,7 @@ tables-requires : tie.Need-tables-requires
 tables-requires c κs = search needs
 
 give-back-requires : tie.Need-give-back-requires
-give-back-requires c κs =
-    tables-there _ _ _ (c .before .before .before .before .before .decode-state .ensures) _ _ (c .before .before .before .tables .ensures .0)
+give-back-requires c κs = search needs
 
 same-length : tie.Need-same-length
 same-length c = search needs
@@ -30,7 +29,7 @@ returns c =
     let e = c .before .before .before .before .before .before .before .before .decode-state .ensures in
     let t = c .before .before .before .before .before .before .tables .ensures in
     let g = c .before .before .give-back .ensures in
-    let k = passed (λ (s : Intake). tablesAnswer s (a .piece .now) (a .tables .now)) (a .state .now) _ _ _ _ e (t .0) (g .0) (g .1) in
+    let k = passed (λ (s : Intake). tablesAnswer s (a .piece .now) (a .tables .now)) (a .state .now) _ _ _ _ e (t .0) (g .0) (g .1) (tables-there _ _ _ e _ _ (t .0)) in
     (k .0, (k .1, t .1 ∙ ap (λ (s : Intake). tablesLeft s (a .piece .now) (a .tables .now)) e))
 
 pub setup-tables-spec : {M : Type 1} → statement M

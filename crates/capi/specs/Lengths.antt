@@ -1,0 +1,69 @@
+-- The arrays of the plan and of the state that words encode have their lengths.
+--
+-- Main definitions: `LongPlan`, `Long`. Main statements: `plan-long`, `own-long`, `marked-long`.
+use Prim.Native.Nat.{ℕ}
+use lib.ListN.{drop, getD, length, length-drop, length-set, set, take}
+use lib.Seq.{length-take-le}
+use mathlib.Core.Bool.{Bool, false, true}
+use mathlib.Core.List.{List, [], _∷_}
+use mathlib.Core.Path.{_∙_, _≡_, ap, refl, sym}
+use native.Mathlib.Decide.{ℕ-discrete}
+use native.Mathlib.Omega.{arith}
+use Rattle.columns.specs.declared.intake.Intake.{Intake}
+use Rattle.encoding.specs.Encoding.{intakeOf, lookupFits, planLength, planOf, stateLength}
+use Rattle.encoding.specs.EncodingLaws.{plan-none, plan-other, plan-read, state-other, state-read}
+use Rattle.pieces.specs.Records.{Read, cut, whole}
+use Rattle.pieces.specs.Rows.{marked}
+use Rattle.tree.specs.Plan.{zeroPlan}
+use Rattle.tree.specs.declared.plan.Plan.{Plan}
+
+pub record LongPlan (q : Plan) : Type 0 where
+  pub gates : length (q .gates) ≡ 384
+  pub nodes : length (q .nodes) ≡ 765
+
+pub zero-long : LongPlan zeroPlan
+zero-long = record { gates = refl; nodes = refl }
+
+pub long-like : (q r : Plan) → q ≡ r → LongPlan q → LongPlan r
+long-like q r e l = rw e at l
+
+pub plan-long : (ws : List ℕ) → LongPlan (planOf ws)
+plan-long ws = by (ℕ-discrete (length ws) planLength) (lookupFits (getD ws 5 0) (getD ws 6 0) (getD ws 7 0)) refl
+  where
+    by : Dec (length ws ≡ planLength) → (t : Bool) → lookupFits (getD ws 5 0) (getD ws 6 0) (getD ws 7 0) ≡ t → LongPlan (planOf ws)
+    by (no d) t f = long-like zeroPlan (planOf ws) (plan-other ws d) zero-long
+    by (yes e) false f = long-like zeroPlan (planOf ws) (plan-none ws e f) zero-long
+    by (yes e) true f =
+        long-like _ (planOf ws) (plan-read ws e f)
+        (record {
+          gates = length-take-le 384 (drop 8 ws) (omega (arith, length-drop 8 ws));
+          nodes = length-take-le 765 (drop 393 ws) (omega (arith, length-drop 393 ws));
+        })
+
+pub used-long : (ws : List ℕ) → length (intakeOf ws .used) ≡ 128
+used-long ws = by (ℕ-discrete (length ws) stateLength)
+  where
+    by : Dec (length ws ≡ stateLength) → length (intakeOf ws .used) ≡ 128
+    by (yes e) = ap (λ (s : Intake). length (s .used)) (sym (state-read ws e)) ∙ length-take-le 128 (drop 1167 ws) (omega (arith, length-drop 1167 ws))
+    by (no d) = ap (λ (s : Intake). length (s .used)) (sym (state-other ws d))
+
+pub own-plan : (ws : List ℕ) → LongPlan (intakeOf ws .plan)
+own-plan ws = by (ℕ-discrete (length ws) stateLength)
+  where
+    by : Dec (length ws ≡ stateLength) → LongPlan (intakeOf ws .plan)
+    by (yes e) = long-like (planOf (take planLength ws)) (intakeOf ws .plan) (ap (λ (s : Intake). s .plan) (state-read ws e)) (plan-long (take planLength ws))
+    by (no d) = long-like zeroPlan (intakeOf ws .plan) (ap (λ (s : Intake). s .plan) (state-other ws d)) zero-long
+
+pub record Long (s : Intake) : Type 0 where
+  pub plan : LongPlan (s .plan)
+  pub used : length (s .used) ≡ 128
+
+pub own-long : (ws : List ℕ) → Long (intakeOf ws)
+own-long ws = record { plan = own-plan ws; used = used-long ws }
+
+-- marks stay as many
+pub marked-long : (u : List ℕ) (ts : List Read) → length (marked u ts) ≡ length u
+unfolding marked
+marked-long u [] = refl
+marked-long u (cut ∷ ts) = marked-long u ts
+marked-long u (whole g n cs ∷ ts) = marked-long (set u g 1) ts ∙ length-set u g 1
