@@ -26,7 +26,8 @@ use Rattle.claim.specs.Chain.{Kept, answer, chained}
 use Rattle.claim.specs.Statement.{Right, settingFor}
 use Rattle.columns.specs.declared.intake.Intake.{Intake}
 use Rattle.columns.specs.declared.intake.Taken.{Taken}
-use Rattle.encoding.specs.Encoding.{intakeOf, parametersAt, planLength, progressOf, progressed, stateLength}
+use Rattle.parameters.specs.Parameters.{parametersAt}
+use Rattle.encoding.specs.Encoding.{intakeOf, planLength, progressOf, progressed, stateLength}
 use Rattle.encoding.specs.EncodingLaws.{state-read}
 use Rattle.pieces.specs.Calls.{Call, cellWords, finishing, rows, sWords, tableWords}
 use Rattle.pieces.specs.Setting.{Store}
