@@ -57,6 +57,12 @@ fn only(a: &Arguments, i: u64) {
     }
 }
 
+const NOTES: &str = "
+Kept memory: made once, warm in every round. Fresh memory: made in each round of each side from \
+untouched pages, which go back to the system after it, outside its time. One allocator makes both \
+sides' memory; pages are those that a round touches first. The limit: all lent buffers set to zeros \
+and all pieces copied to their columns, in the same memory. Ratios are of the least times.";
+
 fn main() {
     let words: Vec<String> = std::env::args().skip(1).collect();
     let Some(a) = Arguments::read(&words) else {
@@ -67,6 +73,7 @@ fn main() {
     let commit = std::env::var("COMMIT").unwrap_or("unknown".to_string());
     let (seed, count, rounds, mode) = (a.seed, a.count, a.rounds, a.mode());
     println!("Commit {commit}; seed {seed}, {count} random circuits; {rounds} rounds; memory {mode}; milliseconds.");
+    println!("{NOTES}");
     if let Some(i) = a.only {
         return only(&a, i);
     }

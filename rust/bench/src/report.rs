@@ -82,6 +82,9 @@ pub fn summary(fixed: &[Measured], drawn: &[Measured]) {
         line(&format!("wholes, {name}, least times"), ratios(set, |x| x.whole.ratio()));
         line(&format!("wholes, {name}, medians"), ratios(set, |x| x.whole.ratio_of_medians()));
     }
+    let (tall, short): (Vec<_>, Vec<_>) = all.iter().partition(|x| x.n >= 1024);
+    line("wholes, both, N below 1,024, least times", ratios(&short, |x| x.whole.ratio()));
+    line("wholes, both, N from 1,024, least times", ratios(&tall, |x| x.whole.ratio()));
     for (name, parts) in SUMMED {
         // without tables nothing is done on either side
         let some: Vec<_> = all.iter().copied().filter(|x| parts != [4] || x.tables).collect();

@@ -11,6 +11,7 @@ use std::time::Duration;
 /// What the rounds of a circuit gave.
 pub struct Measured {
     pub name: String,
+    pub n: u64,
     /// Whether it has any.
     pub tables: bool,
     pub whole: Pair,
@@ -180,6 +181,7 @@ fn parts(sides: &mut Sides, rounds: usize, made: &mut Measured) {
 pub fn measure(name: String, x: &Circuit, memory: Memory, rounds: usize) -> Measured {
     let mut made = Measured {
         name,
+        n: x.parameters[0],
         tables: !x.tables.is_empty(),
         whole: Pair::default(),
         limit: Times::default(),
