@@ -1,137 +1,83 @@
 //! The proved library beside the original's create_base_setup: one process, one thread, the same
-//! circuits, rounds in turn, minima and medians in milliseconds. The ratio is of the minima.
-//!
-//!   bench [ROUNDS]      15 if not given
+//! circuits, rounds in turn, the least and the median in milliseconds. Ratios are of the least times.
+//! Both sides' memory is made alike (`memory.rs`). Nothing here passes or fails by a time.
+mod arguments;
 mod circuits;
+mod growth;
 mod library;
+mod memory;
+mod random_set;
+mod report;
+mod rounds;
+mod system;
+mod times;
 
-use circuits::{Cells, Shape};
-use library::{timed, Lent, PARTS};
-use oracle::clock::{Part as OfOriginal, Spent};
-use std::time::Duration;
+use arguments::{Arguments, USAGE};
+use memory::Memory;
+use rounds::{measure, measure_planning, Measured};
 
-#[derive(Default)]
-struct Times(Vec<Duration>);
+/// The circuits of the table.
+fn fixed(memory: Memory, rounds: usize) -> Vec<Measured> {
+    let shapes = circuits::shapes().into_iter();
+    shapes.map(|x| measure(x.name(), &circuits::make(x), memory, rounds)).collect()
+}
 
-impl Times {
-    fn least(&self) -> f64 {
-        self.0.iter().min().unwrap().as_secs_f64() * 1e3
-    }
+fn drawn(a: &Arguments, memory: Memory, numbers: std::ops::Range<u64>) -> Vec<Measured> {
+    let one = |i| {
+        let drawn = random_set::make(a.seed, i);
+        measure(drawn.name, &drawn.circuit, memory, a.rounds)
+    };
+    numbers.map(one).collect()
+}
 
-    fn median(&self) -> f64 {
-        let mut all = self.0.clone();
-        all.sort();
-        all[all.len() / 2].as_secs_f64() * 1e3
+fn tables(a: &Arguments, memory: Memory) {
+    println!("\n### Wholes, {} memory", memory.name());
+    let fixed = fixed(memory, a.rounds);
+    report::wholes(&fixed);
+    let drawn = drawn(a, memory, 0..a.count);
+    println!("\nRandom set, seed {}:", a.seed);
+    report::wholes(&drawn);
+    println!("\n### Summary, {} memory", memory.name());
+    report::summary(&fixed, &drawn);
+    println!("\n### Parts, {} memory", memory.name());
+    let lists = circuits::gate_lists();
+    let planning = |gates: &[[u64; 3]]| measure_planning(&circuits::plain(gates), memory, a.rounds);
+    let lists: Vec<_> = lists.iter().map(|(name, gates)| (*name, planning(gates))).collect();
+    report::parts(&lists, &fixed);
+    growth::both_sides(memory, a.rounds);
+}
+
+/// One random circuit, whole and by part.
+fn only(a: &Arguments, i: u64) {
+    for memory in &a.memories {
+        println!("\n### {} memory", memory.name());
+        let drawn = drawn(a, *memory, i..i + 1);
+        report::wholes(&drawn);
+        report::parts(&[], &drawn);
     }
 }
 
-/// A part of the work on both sides.
-#[derive(Default)]
-struct Part {
-    ours: Times,
-    theirs: Times,
-}
-
-impl Part {
-    fn push(&mut self, ours: Duration, theirs: Duration) {
-        self.ours.0.push(ours);
-        self.theirs.0.push(theirs);
-    }
-
-    fn print(&self, name: &str, part: &str) {
-        let (ours, theirs) = (&self.ours, &self.theirs);
-        println!(
-            "| {name} | {part} | {:.3} | {:.3} | {:.3} | {:.3} | {:.2} |",
-            ours.least(),
-            ours.median(),
-            theirs.least(),
-            theirs.median(),
-            ours.least() / theirs.least()
-        );
-    }
-}
-
-/// The original's time for each of our parts: its columns are allocated as zeros where ours are
-/// opened.
-fn original_parts(spent: Spent) -> [Duration; 5] {
-    let of = |part: OfOriginal| spent[part as usize];
-    [
-        of(OfOriginal::Planning),
-        of(OfOriginal::Allocating) + of(OfOriginal::Labels),
-        of(OfOriginal::Rows),
-        of(OfOriginal::Cells),
-        of(OfOriginal::Tables),
-    ]
-}
-
-/// One circuit in one piece a section, whole and by part. Dropping what the original made is not in
-/// its time.
-fn compare(shape: Shape, rounds: usize) {
-    let circuit = circuits::make(shape);
-    let original = oracle::prepare(&circuit.listing()).expect("a listing");
-    let mut lent = Lent::new(&circuit);
-    let mut parts: [Part; PARTS.len()] = Default::default();
-    let mut whole = Part::default();
-    for _ in 0..rounds {
-        let ours = lent.whole(usize::MAX).parts();
-        let (made, spent) = original.whole();
-        drop(made);
-        let theirs = original_parts(spent);
-        for (i, part) in parts.iter_mut().enumerate() {
-            part.push(ours[i], theirs[i]);
-        }
-        whole.push(ours.iter().sum(), theirs.iter().sum());
-    }
-    for (part, name) in parts.iter().zip(PARTS) {
-        part.print(&shape.name(), name);
-    }
-    whole.print(&shape.name(), "whole");
-}
-
-/// Planning alone.
-fn planning(rounds: usize) {
-    for (name, gates) in circuits::gate_lists() {
-        let circuit = circuits::plain(&gates);
-        let original = oracle::prepare(&circuit.listing()).expect("a listing");
-        let lent = Lent::new(&circuit);
-        let mut part = Part::default();
-        for _ in 0..rounds {
-            let (_, theirs) = timed(|| original.planning());
-            let (_, ours) = timed(|| lent.plan());
-            part.push(ours, theirs);
-        }
-        part.print(name, "planning");
-    }
-}
-
-/// The same circuit in one piece and in pieces of so many records.
-fn pieces(shape: Shape, rounds: usize) {
-    let circuit = circuits::make(shape);
-    let mut lent = Lent::new(&circuit);
-    for most in [usize::MAX, 1024, 1] {
-        let mut times = Times::default();
-        for _ in 0..if most == 1 { 3 } else { rounds } {
-            times.0.push(lent.whole(most).parts().iter().sum());
-        }
-        let size = if most == usize::MAX { "all".to_string() } else { most.to_string() };
-        println!("| {} | {size} | {:.3} | {:.3} |", shape.name(), times.least(), times.median());
-    }
-}
+const NOTES: &str = "
+Kept memory: made once, warm in every round. Fresh memory: made in each round of each side from \
+untouched pages, which go back to the system after it, outside its time. One allocator makes both \
+sides' memory; pages are those that a round touches first. The limit: all lent buffers set to zeros \
+and all pieces copied to their columns, in the same memory. Ratios are of the least times.";
 
 fn main() {
-    let rounds = std::env::args().nth(1).map_or(15, |n| n.parse().expect("a number of rounds"));
-    println!("| circuit | part | ours, least | ours, median | original, least | original, median | ratio |");
-    println!("|---|---|---|---|---|---|---|");
-    planning(rounds);
-    for log in [10, 13, 16] {
-        for c in [8, 64] {
-            for cells in [Cells::Local, Cells::Random] {
-                compare(Shape { n: 1 << log, c, cells }, rounds);
-            }
-        }
+    let words: Vec<String> = std::env::args().skip(1).collect();
+    let Some(a) = Arguments::read(&words) else {
+        eprintln!("{USAGE}");
+        std::process::exit(2);
+    };
+    memory::start();
+    let commit = std::env::var("COMMIT").unwrap_or("unknown".to_string());
+    let (seed, count, rounds, mode) = (a.seed, a.count, a.rounds, a.mode());
+    println!("Commit {commit}; seed {seed}, {count} random circuits; {rounds} rounds; memory {mode}; milliseconds.");
+    println!("{NOTES}");
+    if let Some(i) = a.only {
+        return only(&a, i);
     }
-    println!("\n| circuit | records a piece | least | median |\n|---|---|---|---|");
-    for log in [10, 13, 16] {
-        pieces(Shape { n: 1 << log, c: 8, cells: Cells::Random }, rounds);
-    }
+    a.memories.iter().for_each(|memory| tables(&a, *memory));
+    growth::pieces(a.rounds);
+    growth::empty_calls(a.rounds);
 }
