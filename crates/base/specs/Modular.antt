@@ -1,10 +1,11 @@
 -- Laws of remainders that the library lacks: a factor, or the base of a power, may be taken modulo m first; numbers that are the same
 -- modulo m may stand for each other; what has an inverse cancels.
 --
--- Main statements: `mod-mul`, `mul-mod`, `pow-mod`, `same-left`, `same-right`, `same-pow`, `cancel`.
+-- Main statements: `mod-mul`, `mul-mod`, `pow-mod`, `same-left`, `same-right`, `same-pow`, `cancel`, `minus-one`.
 use mathlib.Core.Path.{_≡_, sym, ap, _∙_}
-use Prim.Native.Nat.{ℕ, zero, suc, _+_, _*_, _/_, _%_, _^_}
-use native.Mathlib.Nat.{add-mul, mul-assoc, mul-comm, mul-right-comm, one-mul, mul-add-mod-self-right, div-add-mod', pow-zero, pow-suc}
+use Prim.Native.Nat.{ℕ, zero, suc, _+_, _-_, _*_, _/_, _%_, _^_, _<_}
+use native.Mathlib.Omega.{arith}
+use native.Mathlib.Nat.{mod-lt, mul-add-mod-self-left, add-mul, mul-assoc, mul-comm, mul-right-comm, one-mul, mul-add-mod-self-right, div-add-mod', pow-zero, pow-suc}
 
 -- the left factor modulo m
 pub mod-mul : (a b m : ℕ) → a % m * b % m ≡ a * b % m
@@ -47,3 +48,18 @@ module _ (m : ℕ) where
     where
       once : (z : ℕ) → Same (u * (k * z)) z
       once z = rw (← mul-assoc) (same-left (u * k) 1 z i ∙ rw one-mul)
+
+-- one factor less: what is over is m minus the other
+turned : (k n : ℕ) → k < n → suc k * n ≡ suc n * k + (suc n - suc k)
+turned k n h = omega arith
+
+-- m - 1 times a number is m minus it
+pub minus-one : (y m : ℕ) → 0 < m → y * (m - 1) % m ≡ (m - y % m) % m
+minus-one y m pos = sym (mod-mul y (m - 1) m) ∙ go (y % m) (mod-lt y pos)
+  where
+    go : (q : ℕ) → q < m → q * (m - 1) % m ≡ (m - q) % m
+    go zero h = let a : 0 * (m - 1) ≡ 0 = omega arith in let b : m - 0 ≡ m * 1 + 0 = omega arith in rw (a, b, mul-add-mod-self-left)
+    go (suc k) h =
+        let n : suc (m - 1) ≡ m = omega arith in
+        let e : suc k * (m - 1) ≡ m * k + (m - suc k) = rw n at (turned k (m - 1) (omega arith)) in
+        rw (e, mul-add-mod-self-left)

@@ -26,16 +26,13 @@ use Rattle.labels.specs.Ranges.{rangesFit, mostColumns}
 use Rattle.labels.specs.RangesLaws.{Ranges, ranges-fit, some-row}
 use Rattle.labels.specs.Labels.{domainGenerator, found, searchNumber, padded, representativesNumber, representativesOf, labelOf, labelNumber, labelAnswer, fillNumber, labelsWritten}
 use Rattle.labels.specs.Search.{found-chosen}
+use Rattle.labels.specs.Filling.{generator-root}
 
 -- labels at the first m words of a list
 pub record DistinctLabels (m : ℕ) (labels : List ℕ) : Type 0 where
   pub below : (i : ℕ) → i < m → getD labels i 0 < p
   pub nonzero : (i : ℕ) → i < m → getD labels i 0 ≢ 0
   pub apart : (i j : ℕ) → i < m → j < m → getD labels i 0 ≡ getD labels j 0 → i ≡ j
-
-generator-root : (n c : ℕ) → Ranges n c → Root p (exponent n) (domainGenerator n)
-unfolding domainGenerator
-generator-root n c r = domain-root (exponent n) (omega (arith, r .low))
 
 -- a label as a product with a plain power
 label-product : (n : ℕ) (reps : List ℕ) (cell : ℕ) → labelOf n reps cell ≡ getD reps (cell / n) 0 * domainGenerator n ^ (cell % n) % p

@@ -7,7 +7,7 @@ ghost use Rattle.field.specs.Field.{fpow, isNonResidue};
 ghost use Rattle.labels.specs.Ranges.{rangesFit};
 ghost use Rattle.labels.specs.Labels.{Columns, domainGenerator, absent, tried, found, representativesNumber, representativesOf, labelOf, labelNumber, labelAnswer, fillNumber, labelsWritten};
 ghost use Rattle.labels.specs.Search.{stored};
-ghost use Rattle.labels.specs.Filling.{rootPower, scaledFrom, ColumnZero};
+ghost use Rattle.labels.specs.Filling.{rootPower, scaledFrom, negatedFrom, HalfTurn, ColumnZero};
 
 // The refusal numbers of 01: N, C or a cell is out of range; the candidates reach p; a lent slice
 // is too short.
@@ -192,13 +192,25 @@ fn materialize_x_by_non_residue(k: u64, at: usize, n: usize, copies: &mut [u64])
     }
 }
 
-// Column 0: the powers of w. As many words again as there are, at the most, each time: w to the
-// power of their number times those, so that no product waits for the one before it.
-fn materialize_x_poly(n: u64, copies: &mut [u64])
-    requires { ⌜ (1 ≤ n) × (n ≤ length (now copies)) ⌝ }
-    ensures { λ r. ⌜ Filled (rootPower n) 0 n (now (copies .entry)) (now (copies .exit)) ⌝ }
+// The second half of a column that starts at `at`: each word is p minus the one `half` places
+// before it, since w to the power of half of N is p - 1.
+fn negate(at: usize, half: usize, rest: usize, copies: &mut [u64])
+    requires { ⌜ (rest ≤ half) × (at + half + rest ≤ length (now copies)) ⌝ }
+    ensures { λ r. ⌜ Filled (negatedFrom half (now (copies .entry))) (at + half) (at + half + rest) (now (copies .entry)) (now (copies .exit)) ⌝ }
 {
-    let rows = n as usize;
+    let mut r: usize = 0;
+    while r < rest {
+        copies[at + half + r] = field::sub(0, copies[at + r]);
+        r += 1;
+    }
+}
+
+// The first powers of w. As many words again as there are, at the most, each time: w to the
+// power of their number times those, so that no product waits for the one before it.
+fn powers(n: u64, rows: usize, copies: &mut [u64])
+    requires { ⌜ (1 ≤ rows) × (rows ≤ length (now copies)) ⌝ }
+    ensures { λ r. ⌜ Filled (rootPower n) 0 rows (now (copies .entry)) (now (copies .exit)) ⌝ }
+{
     let mut x = domain_generator_for_size(n);
     copies[0] = 1;
     let mut r: usize = 1;
@@ -211,14 +223,29 @@ fn materialize_x_poly(n: u64, copies: &mut [u64])
     }
 }
 
+// Column 0: the powers of w.
+fn materialize_x_poly(n: u64, copies: &mut [u64])
+    requires { ⌜ (1 ≤ n) × (n ≤ length (now copies)) × HalfTurn n ⌝ }
+    ensures { λ r. ⌜ Filled (rootPower n) 0 n (now (copies .entry)) (now (copies .exit)) ⌝ }
+{
+    let rest = (n / 2) as usize;
+    let half = n as usize - rest;
+    powers(n, half, copies);
+    negate(0, half, rest, copies);
+}
+
 // Columns 1 to c - 1, each its representative times column 0.
 fn materialize_x_by_non_residue_polys(n: usize, c: usize, values: &[u64; 64], copies: &mut [u64])
-    requires { ⌜ ColumnZero n c (now copies) ⌝ }
+    requires { ⌜ ColumnZero n c (now copies) × HalfTurn n ⌝ }
     ensures { λ r. ⌜ Filled (labelOf n (now (values .entry))) n (c * n) (now (copies .entry)) (now (copies .exit)) ⌝ }
 {
+    let rest = n / 2;
+    let half = n - rest;
     let mut column: usize = 1;
     while column < c {
-        materialize_x_by_non_residue(values[column], column * n, n, copies);
+        let at = column * n;
+        materialize_x_by_non_residue(values[column], at, half, copies);
+        negate(at, half, rest, copies);
         column += 1;
     }
 }
