@@ -6,10 +6,9 @@ use mathlib.Core.Logic.{inl, inr}
 use mathlib.Core.Bool.{true}
 use mathlib.Core.List.{List, [], _∷_}
 use mathlib.Core.Option.{some}
-use Prim.Native.Nat.{ℕ, _*_, _≤_, _<_}
+use Prim.Native.Nat.{ℕ, _*_, _<_}
 use native.Mathlib.Omega.{arith}
 use lib.Dec.{ltb}
-use lib.ListN.{length}
 use borrow.Author.Tests.{ltb-true, ltb-false}
 use Rattle.base.specs.Tables.{table-length, table-at}
 use Rattle.labels.specs.Ranges.{some-row}
@@ -37,7 +36,7 @@ part-by (d ∷ p) [] a = absurd a
 part-by (d ∷ p) (e ∷ o) (inl n) = inl n
 part-by (d ∷ p) (e ∷ o) (inr a) = inr (part-by p o a)
 
-module _ (q : Plan) (e : planFault q ≡ 0) (long : 384 ≤ length (q .gates)) (found : searchNumber (q .trace) (q .copy) ≡ 0) where
+module _ (q : Plan) (e : planFault q ≡ 0) (found : searchNumber (q .trace) (q .copy) ≡ 0) where
   abbrev n : ℕ
   n = q .trace
 
@@ -45,17 +44,17 @@ module _ (q : Plan) (e : planFault q ≡ 0) (long : 384 ≤ length (q .gates)) (
   c = q .copy
 
   good : Sound q
-  good = sound q e long
+  good = sound q e
 
   abbrev t : Tree
-  t = nodes q e long .tree
+  t = nodes q e .tree
 
   -- a placed gate has a path
   placed-path : (g : ℕ) → g < q .«gate_count» → ltb 0 (wanted (gatesGiven q) (q .«gate_count») g) ≡ true → (p : List ℕ) × (pathTo g t ≡ some p) × (planPath q g ≡ p)
   placed-path g h w =
-      let s = nodes q e long .once g h in
+      let s = nodes q e .once g h in
       let p = path-some t g (omega (arith, s, ltb-true 0 (wanted (gatesGiven q) (q .«gate_count») g) w)) in
-      (p .0, p .1, path-is q e long g ∙ ap orEmpty (p .1))
+      (p .0, p .1, path-is q e g ∙ ap orEmpty (p .1))
 
   representatives-found : representativesNumber n c ≡ 0
   unfolding representativesNumber
@@ -79,7 +78,7 @@ module _ (q : Plan) (e : planFault q ≡ 0) (long : 384 ≤ length (q .gates)) (
             subst (λ (o : List ℕ). Part (planPath q g) o) (sym (b .2)) (subst (λ (o : List ℕ). Part o (b .0)) (sym (a .2)) z));
         dropped = λ g h w.
             (let z : wanted (gatesGiven q) (q .«gate_count») g ≡ 0 = omega (arith, ltb-false 0 (wanted (gatesGiven q) (q .«gate_count») g) w) in
-            (path-is q e long g ∙ ap orEmpty (path-none t g (nodes q e long .once g h ∙ z)), unwanted-bare (planExtra q) (gatesGiven q) (q .«gate_count») g (good-records q e long) h z));
+            (path-is q e g ∙ ap orEmpty (path-none t g (nodes q e .once g h ∙ z)), unwanted-bare (planExtra q) (gatesGiven q) (q .«gate_count») g (good-records q e) h z));
         all-labels = table-length (c * n) (labelOf n (representativesOf n c));
         labels-below = distinct .below;
         labels-nonzero = distinct .nonzero;

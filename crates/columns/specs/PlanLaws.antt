@@ -99,7 +99,7 @@ pathless t g e = go (ℕ-discrete (standing g t) 0)
     go (yes z) = z
     go (no d) = let s = path-some t g (omega arith) in absurd (let z : _≡_ {A = ℕ} 0 1 = cc (s .1, e) in omega arith)
 
-module _ (q : Plan) (e : planFault q ≡ 0) (long : 384 ≤ length (q .gates)) where
+module _ (q : Plan) (e : planFault q ≡ 0) where
   abbrev pub many : ℕ
   many = q .«gate_count»
 
@@ -123,7 +123,7 @@ module _ (q : Plan) (e : planFault q ≡ 0) (long : 384 ≤ length (q .gates)) w
   deep = tree-deep mostLevels (q .nodes) 0 (nodes .tree) (nodes .is)
 
   given-length : length words ≡ many * gateWords
-  given-length = length-take-le (many * gateWords) (q .gates) (omega (arith, whole .few-gates))
+  given-length = length-take-le (many * gateWords) (q .gates) (whole .words)
 
   records : Records words many (planExtra q)
   records = gates-sound (modeOf (q .lookup)) (q .allowed) words many (whole .gates) (omega (arith, given-length)) (whole .few-gates)

@@ -139,15 +139,14 @@ impl Intake {
     {
         let plan = self.plan;
         // not `plan.fault()`: each call on a state asks this, and the plan would be handed over by value
+        let told = plan.told();
         let number = parts_fault(
             plan.parameters(),
             &plan.gates,
             plan.gate_count,
             &plan.nodes,
             plan.node_count,
-            plan.degree,
-            plan.constants,
-            plan.factor,
+            told,
         );
         if number != 0 {
             return false;

@@ -26,6 +26,7 @@ use Rattle.tree.specs.declared.plan.Path.{Path}
 use Rattle.tree.specs.declared.plan.Paths.{Paths}
 use Rattle.tree.specs.declared.plan.Plan.{Plan}
 use Rattle.tree.specs.declared.plan.TableId.{TableId}
+use Rattle.tree.specs.declared.plan.Told.{Told}
 use Rattle.tree.specs.declared.planning.Planned.{Planned}
 
 -- "Refused planning, path or opening hands back a plan, path or state of zeros"
@@ -119,27 +120,25 @@ gatesGiven p = take (p .«gate_count» * gateWords) (p .gates)
 abbrev pub planExtra : Plan → ℕ
 planExtra p = extraOf (modeOf (p .lookup))
 
--- the test for 19 over a plan's parts, in the same order; gate words that are not there are a fault too, which a plan's own array of 384 never has
-unfoldable pub partsFault : Parameters → List ℕ → ℕ → List ℕ → ℕ → ℕ → ℕ → ℕ → ℕ
-partsFault ps gs n nodes m d k f =
+-- what a plan says of its tree
+abbrev pub toldOf : Plan → Told
+toldOf p = record { degree = p .degree; constants = p .constants; factor = p .factor }
+
+-- "19 is given for a made-up plan: parameters or gates that 1 to 7 turn down, a child not after its parent or past the nodes, a leaf below depth 31, leaves
+-- other than each placed gate just once, or D, K or F not the tree's." Over a plan's parts; gate words that are not there are a fault too, which a plan's own
+-- array of 384 never has.
+unfoldable pub partsFault : Parameters → List ℕ → ℕ → List ℕ → ℕ → Told → ℕ
+partsFault ps gs n nodes m w =
     pick (eqb (parametersNumber ps) 0)
     (pick (leb 1 n)
     (pick (leb n mostGates)
     (pick (leb (n * gateWords) (length gs))
     (pick (eqb (gatesNumber (ps .mode) (ps .allowed) (take (n * gateWords) gs) n) 0)
-    (pick (nodesFit (extraOf (ps .mode)) (take (n * gateWords) gs) n nodes m d k f) 0 19)
+    (pick (nodesFit (extraOf (ps .mode)) (take (n * gateWords) gs) n nodes m (w .degree) (w .constants) (w .factor)) 0 19)
     19) 19) 19) 19) 19
 
--- "19 is given for a made-up plan: parameters or gates that 1 to 7 turn down, a child not after its parent or past the nodes, a leaf below depth 31, leaves
--- other than each placed gate just once, or D, K or F not the tree's."
 unfoldable pub planFault : Plan → ℕ
-planFault p =
-    pick (eqb (parametersNumber (parametersOf p)) 0)
-    (pick (leb 1 (p .«gate_count»))
-    (pick (leb (p .«gate_count») mostGates)
-    (pick (eqb (gatesNumber (modeOf (p .lookup)) (p .allowed) (gatesGiven p) (p .«gate_count»)) 0)
-    (pick (nodesFit (planExtra p) (gatesGiven p) (p .«gate_count») (p .nodes) (p .«node_count») (p .degree) (p .constants) (p .factor)) 0 19)
-    19) 19) 19) 19
+planFault p = partsFault (parametersOf p) (p .gates) (p .«gate_count») (p .nodes) (p .«node_count») (toldOf p)
 
 -- the path of a gate in a plan's tree; a gate at no leaf, a dropped one, has the empty path
 abbrev pub pathIn : Option Tree → ℕ → List ℕ

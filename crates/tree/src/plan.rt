@@ -1,7 +1,7 @@
 // Plans by value: the test for a made-up plan, which is also there for a plan's parts, paths and the table-id index.
 ghost use mathlib.Core.Path.{_≡_};
 ghost use Rattle.parameters.specs.Lookup.{flagOf};
-ghost use Rattle.tree.specs.Plan.{zeroPlan, parametersOf, partsFault, planFault, pathAnswer, pathsAnswer, tableIdAnswer};
+ghost use Rattle.tree.specs.Plan.{zeroPlan, parametersOf, toldOf, partsFault, planFault, pathAnswer, pathsAnswer, tableIdAnswer};
 use crate::gates::GATE_WORDS;
 use crate::made_up::nodes_fit;
 use crate::paths::all_placements;
@@ -24,6 +24,13 @@ pub struct Plan {
     pub gate_count: u64,
     pub nodes: [u64; 765],
     pub node_count: u64,
+    pub degree: u64,
+    pub constants: u64,
+    pub factor: u64,
+}
+
+// What a plan says of its tree: D, K and F.
+pub struct Told {
     pub degree: u64,
     pub constants: u64,
     pub factor: u64,
@@ -70,11 +77,9 @@ pub fn parts_fault<'a>(
     gate_count: u64,
     nodes: &'a Nodes,
     node_count: u64,
-    degree: u64,
-    constants: u64,
-    factor: u64,
+    told: Told,
 ) -> u64
-    ensures { λ r. ⌜ r ≡ partsFault parameters (now (gates .entry)) «gate_count» (now (nodes .entry)) «node_count» degree constants factor ⌝ }
+    ensures { λ r. ⌜ r ≡ partsFault parameters (now (gates .entry)) «gate_count» (now (nodes .entry)) «node_count» told ⌝ }
 {
     if parameters.number() != 0 {
         return 19;
@@ -95,17 +100,7 @@ pub fn parts_fault<'a>(
         return 19;
     }
     let extra = extra_of(parameters.mode);
-    let fit = nodes_fit(
-        words,
-        nodes,
-        many,
-        node_count as usize,
-        extra,
-        degree,
-        constants,
-        factor,
-    );
-    if fit {
+    if nodes_fit(words, nodes, many, node_count as usize, extra, told) {
         return 0;
     }
     19
@@ -153,6 +148,17 @@ impl Plan {
         }
     }
 
+    // What the plan says of its tree.
+    pub fn told(self) -> Told
+        ensures { λ r. ⌜ r ≡ toldOf self ⌝ }
+    {
+        Told {
+            degree: self.degree,
+            constants: self.constants,
+            factor: self.factor,
+        }
+    }
+
     // 19 for a made-up plan, else 0.
     pub fn fault(self) -> u64
         ensures { λ r. ⌜ r ≡ planFault self ⌝ }
@@ -166,9 +172,7 @@ impl Plan {
             self.gate_count,
             &nodes,
             self.node_count,
-            self.degree,
-            self.constants,
-            self.factor,
+            self.told(),
         )
     }
 

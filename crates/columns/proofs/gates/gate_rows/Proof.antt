@@ -66,10 +66,6 @@ loop-again c =
       filled-next (ownOf q) 0 (l .g) _ _ _ (l .inv .2) (omega arith) (omega (arith, l .inv .1, h)) (e ∙ own-given q (planExtra q) (l .g) (c .before .before .if1 .taken)),
     )
 
--- the plan's gate words are 384
-long : (s : tie.Start Inv-loop μ-loop) → 384 ≤ length (s .args .plan .gates)
-long s = let e : length (s .args .plan .gates) ≡ 384 = search needs in omega arith
-
 -- the words of a listed gate's path
 record Words (q : Plan) (r : Paths) (g : ℕ) : Type 0 where
   pub bits-are : getD (r .bits) g 0 ≡ bitsOf (planPath q g)
@@ -89,7 +85,7 @@ returns c =
     let s = c .before .before .before .before .before .before .before .before in
     let q = s .args .plan in
     let l = c .before .before .loop in
-    let w = sound q (s .pre) (long s) in
+    let w = sound q (s .pre) in
     let done : l .g ≡ q .«gate_count» = omega (arith, c .if1 .left, l .inv .0) in
     let words = spelled q (c .before .before .before .before .before .before .before .paths .result) (c .before .before .before .before .before .before .before .paths .ensures) (s .pre) in
     let o : (g : ℕ) → g < q .«gate_count» → getD (l .own) g 0 ≡ ownOf q g = λ g h. l .inv .2 .inside g (omega arith) (omega arith) in

@@ -19,8 +19,7 @@ use Rattle.columns.proofs.sections.last_tests.Tie as tie
 
 fine : (s : tie.Start) → Sound (s .args .plan)
 fine s =
-    let l : length (s .args .plan .gates) ≡ 384 = search needs in
-    sound (s .args .plan) (s .pre .0) (omega arith)
+    sound (s .args .plan) (s .pre .0)
 
 gate-rows-requires : tie.Need-gate-rows-requires
 gate-rows-requires c κs = search needs

@@ -4,7 +4,6 @@ use borrow.Author.Needs.{needs}
 use mathlib.Core.Path.{_≡_, sym, _∙_}
 use native.Mathlib.Omega.{arith}
 use native.Mathlib.Nat.{mul-le-mul}
-use lib.ListN.{length}
 use lib.Dec.{ltb}
 use Rattle.base.specs.Firsts.{first-none, first-found}
 use Rattle.selector.specs.Gates.{constantsOf}
@@ -24,8 +23,7 @@ gate-rows-requires c κs = search needs
 
 fine : (s : tie.Start) → Sound (s .args .plan)
 fine s =
-    let l : length (s .args .plan .gates) ≡ 384 = search needs in
-    sound (s .args .plan) (s .pre) (omega arith)
+    sound (s .args .plan) (s .pre)
 
 test-rows-requires : tie.Need-test-rows-requires
 test-rows-requires c κs =

@@ -48,7 +48,7 @@ same-length c = search needs
 
 -- the plan is sound
 fine : (s : tie.Start) → Sound (s .args .plan)
-fine s = let l : length (s .args .plan .gates) ≡ 384 = search needs in sound (s .args .plan) (s .pre .0) (omega arith)
+fine s = sound (s .args .plan) (s .pre .0)
 
 returns : tie.Need-returns
 returns c =

@@ -17,7 +17,7 @@ use Rattle.parameters.proofs.lookup.LookupParameters.mode.Reads as mode-reads
 
 -- the plan is sound
 fine : (s : tie.Start) → Sound (s .args .plan)
-fine s = let l : length (s .args .plan .gates) ≡ 384 = search needs in sound (s .args .plan) (s .pre) (omega arith)
+fine s = sound (s .args .plan) (s .pre)
 
 mode-requires : tie.Need-mode-requires
 mode-requires c κs = search needs

@@ -36,10 +36,6 @@ fault-requires c κs = search needs
 refused-requires : tie.Need-refused-requires
 refused-requires c κs = search needs
 
--- the plan's gate words
-long : (s : tie.Start) → length (s .args .plan .gates) ≡ 384
-long s = search needs
-
 -- the state of zeros that a refusal hands back
 zeros : (c : tie.After-start) → c .start .result ≡ startOf zeroPlan 0
 zeros c = c .start .ensures ∙ ap (λ (q : Plan). startOf q 0) (c .before .zero .ensures)
@@ -105,8 +101,7 @@ number-is c =
     let a = c .before .before .before .before .before .before .before .before .before .before .before .before .before .before .before .before .args in
     let q = a .plan in
     let b = storeOf (a .constants .now) (a .copies .now) (a .scratch .now) (a .tables .now) in
-    let l = long (c .before .before .before .before .before .before .before .before .before .before .before .before .before .before .before .before) in
-    let w = sound q (fine (c .before .before .before .before .before .before .before .before)) (omega arith) in
+    let w = sound q (fine (c .before .before .before .before .before .before .before .before)) in
     open-own q b (fine (c .before .before .before .before .before .before .before .before)) (room (c .before .before)) ∙ sym (c .fill-labels .ensures .0 ∙ fill-is (q .trace) (q .copy) (a .copies .now) (w .ranges-fit-too) (opened-long q b (room (c .before .before)) .1))
 
 refused-requires-3 : tie.Need-refused-requires-3
@@ -162,8 +157,7 @@ clear-requires-3 c κs =
 add-large : tie.Need-add-large
 add-large c =
     let q = c .before .before .before .before .before .before .before .before .before .before .before .before .before .before .before .before .before .before .before .before .before .before .before .before .before .before .before .before .before .before .before .before .before .args .plan in
-    let l = long (c .before .before .before .before .before .before .before .before .before .before .before .before .before .before .before .before .before .before .before .before .before .before .before .before .before .before .before .before .before .before .before .before .before) in
-    let w = sound q (fine (c .before .before .before .before .before .before .before .before .before .before .before .before .before .before .before .before .before .before .before .before .before .before .before .before .before)) (omega arith) in
+    let w = sound q (fine (c .before .before .before .before .before .before .before .before .before .before .before .before .before .before .before .before .before .before .before .before .before .before .before .before .before)) in
     let r = c .before .before .before .before .before .before .before .before .before .before .before .before .before .rooms-of .ensures in
     let m : q .copy * q .trace ≤ 64 * 65536 = mul-le-mul (w .ranges .columns) (w .ranges .long) in
     omega (arith, m, r .copies-are, r .scratch-is, w .variables)

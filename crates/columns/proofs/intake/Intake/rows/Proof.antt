@@ -29,8 +29,7 @@ upright c = sym (c .before .stands .ensures) ∙ c .if1 .taken
 fine : (c : tie.Then1) → Sound (c .before .before .before .before .args .self .plan)
 fine c =
     let q = c .before .before .before .before .args .self .plan in
-    let l : length (q .gates) ≡ 384 = search needs in
-    sound q (plan-fine (c .before .before .before .before .args .self) (upright c)) (omega arith)
+    sound q (plan-fine (c .before .before .before .before .args .self) (upright c))
 
 counts : (c : tie.Then1) → Stood (settingOf (c .before .before .before .before .args .self .plan)) (stateOf (c .before .before .before .before .args .self))
 counts c = stood (settingOf (c .before .before .before .before .args .self .plan)) (stateOf (c .before .before .before .before .args .self)) (upright c)
