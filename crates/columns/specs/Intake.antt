@@ -11,13 +11,12 @@ use lib.ListN.{replicate}
 use Rattle.base.specs.Pick.{pick}
 use Rattle.base.specs.Tables.{table}
 use Rattle.labels.specs.Labels.{searchNumber, representativesOf, labelOf}
-use Rattle.selector.specs.Gates.{constantsOf}
-use Rattle.selector.specs.MadeUp.{wanted}
 use Rattle.parameters.specs.Lookup.{modeOf, widthOf}
-use Rattle.tree.specs.Plan.{zeroPlan, gatesGiven, planExtra, planFault, planPath}
+use Rattle.tree.specs.Plan.{zeroPlan, planFault, planOwn, planPath, planPlaced}
 use Rattle.tree.specs.declared.plan.Plan.{Plan}
 use Rattle.pieces.specs.Setting.{Setting, State, Store, Cols, cols, constantRoom, copyRoom, scratchRoom, tableRoom}
-use Rattle.pieces.specs.Opening.{openNumber, openStore, openState, zeroState, mostGates}
+use Rattle.base.specs.Limits.{mostGates}
+use Rattle.pieces.specs.Opening.{openNumber, openStore, openState, zeroState}
 use Rattle.pieces.specs.Rows.{rowsNumber, rowsWritten, rowsState}
 use Rattle.pieces.specs.SWords.{sWordsNumber, sWordsWritten, sWordsState}
 use Rattle.pieces.specs.Cells.{cellsNumber, cellsWritten, cellsState}
@@ -45,8 +44,8 @@ settingOf q =
       gates = q .«gate_count»;
       height = q .constants;
       path = planPath q;
-      own = constantsOf (planExtra q) (gatesGiven q);
-      placed = λ g. ltb 0 (wanted (gatesGiven q) (q .«gate_count») g);
+      own = planOwn q;
+      placed = planPlaced q;
       labelled = searchNumber (q .trace) (q .copy);
       labels = labelsOf (q .trace) (q .copy);
     }

@@ -20,7 +20,8 @@ use Rattle.tree.specs.Plan.{planFault}
 use Rattle.tree.specs.declared.plan.Plan.{Plan}
 use Rattle.pieces.specs.Setting.{Setting, State, Store, Held, Cols, constantRoom, copyRoom, scratchRoom, tableRoom, specialRoom, mostTables, isOpened, stands}
 use Rattle.pieces.specs.Records.{Read, rowsOf, tablesOf}
-use Rattle.pieces.specs.Opening.{mostGates, roomToOpen, openNumber, openState, fresh}
+use Rattle.base.specs.Limits.{mostGates}
+use Rattle.pieces.specs.Opening.{roomToOpen, openNumber, openState, fresh}
 use Rattle.pieces.specs.Rows.{rowLines, rowsFault, rowsNumber, rowsWritten, rowsState, marked}
 use Rattle.pieces.specs.SWords.{sWordsFault, sWordsNumber, sWordsWritten, sWordsState}
 use Rattle.pieces.specs.Cells.{placeholder, indexOf, value, firstSeen, seenAgain, placeCell, cellsRun, cellsFault, cellsNumber, roomForCells, cellsState}

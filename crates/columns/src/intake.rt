@@ -13,7 +13,6 @@ use crate::cells::place_cells;
 use crate::finishing::all_used;
 use crate::finishing::scratch_fine;
 use crate::finishing::write_firsts;
-use crate::gates::gate_rows;
 use crate::opening::clear;
 use crate::opening::clear_again;
 use crate::records::write_many;
@@ -224,7 +223,7 @@ impl Intake {
             if constants.len() < rooms_of(plan).constants {
                 return refused(10, self);
             }
-            let gates = gate_rows(plan);
+            let gates = plan.gate_rows();
             let own = gates.own;
             let mut used = self.used;
             let tested = test_rows(gates.many, &own, plan.trace, self.rows, piece, &mut used);

@@ -25,7 +25,7 @@ use Rattle.field.specs.Field.{p, fpow}
 use Rattle.field.specs.FieldLaws.{domain-root, fmul-below}
 use Rattle.labels.specs.Refusals.{outOfRange, candidatesReachP, bufferTooShort}
 use Rattle.labels.specs.Ranges.{rangesFit, Ranges, ranges-fit, some-row, mostColumns}
-use Rattle.labels.specs.Labels.{domainGenerator, found, searchNumber, padded, representativesNumber, representativesOf, labelOf, labelNumber, labelAnswer, fillNumber, labelsWritten}
+use Rattle.labels.specs.Labels.{domainGenerator, found, searchNumber, columnWords, representativesNumber, representativesOf, labelOf, labelNumber, labelAnswer, fillNumber, labelsWritten}
 use Rattle.labels.specs.Search.{found-chosen}
 
 -- labels at the first m words of a list
@@ -102,7 +102,7 @@ search-enough n c z = go (decLt (length (found n c .values)) c)
 pub record AcceptedSearch (n c : ℕ) : Type 0 where
   pub ranges : Ranges n c
   pub enough : c ≤ length (found n c .values)
-  pub answer : representativesOf n c ≡ padded (found n c .values)
+  pub answer : representativesOf n c ≡ columnWords (found n c .values)
 
 pub accepted-search : (n c : ℕ) → representativesNumber n c ≡ 0 → AcceptedSearch n c
 unfolding representativesNumber representativesOf
@@ -115,7 +115,7 @@ accepted-search n c z =
     }
 
 -- the word of a column that has one
-padded-at : (xs : List ℕ) (i : ℕ) → i < length xs → getD (padded xs) i 0 ≡ getD xs i 0
+padded-at : (xs : List ℕ) (i : ℕ) → i < length xs → getD (columnWords xs) i 0 ≡ getD xs i 0
 padded-at xs i h = List·getD-append xs (replicate (mostColumns - length xs) 0) 0 i h
 
 module _ (n c : ℕ) (z : representativesNumber n c ≡ 0) where

@@ -7,6 +7,7 @@ use lib.ListN.{length, drop, replicate}
 use lib.Dec.{leb}
 use mathlib.Core.Bool.{Bool}
 use Rattle.base.specs.Pick.{pick, both}
+use Rattle.base.specs.Limits.{mostGates}
 use Rattle.pieces.specs.Setting.{Setting, State, Store, Cols, cols, Held, constantRoom, copyRoom, scratchRoom, tableRoom, neverOpened, isOpened}
 use Rattle.pieces.specs.Writing.{cleared}
 
@@ -28,10 +29,6 @@ openCells x b = cols (x .labels ++ drop (copyRoom x) (b .copies)) (cleared (scra
 abbrev pub openStore : Setting → Store → Store
 openStore x b =
     record { constants = cleared (constantRoom x) (b .constants); cells = openCells x (b .cells); tables = cleared (tableRoom x) (b .tables) }
-
--- the marks of 128 gates, "Gates: 1..128."
-abbrev pub mostGates : ℕ
-mostGates = 128
 
 abbrev pub openState : State
 openState =

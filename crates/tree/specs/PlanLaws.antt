@@ -1,10 +1,10 @@
 -- What a plan without a fault has, and that planning's plans have none: all that the layers above need of plans.
 --
--- Main definition: `Faultless`. Main statements: `fault-none`, `zero-fault`, `planned-fault`, `planned-fields`, `planned-constants`, `paths-at`.
+-- Main definition: `Faultless`. Main statements: `fault-none`, `zero-fault`, `planned-fault`, `planned-fields`, `planned-constants`.
 use Prim.Native.Nat.{_*_, _+_, _<_, _≤_, ℕ}
 use borrow.Author.Tests.{eq-eqb, eqb-true, le-leb, leb-true, ne-eqb}
 use lib.Dec.{eqb, leb}
-use lib.ListN.{drop, getD, length, length-append, replicate}
+use lib.ListN.{drop, length, length-append, replicate}
 use lib.Seq.{take-append-seam}
 use mathlib.Core.Bool.{Bool, false, true}
 use mathlib.Core.List.{List}
@@ -14,20 +14,21 @@ use mathlib.Core.Path.{_∙_, _≡_, refl, sym}
 use native.Mathlib.Omega.{arith}
 use Rattle.base.specs.Firsts.{first-found, first-none, first-zero}
 use Rattle.base.specs.Pick.{pick, pick-no, pick-zero}
-use Rattle.base.specs.Tables.{table-at}
 use Rattle.selector.specs.Gates.{gateWords, placedGates, topConstants}
 use Rattle.selector.specs.MadeUp.{nodesFit}
 use Rattle.selector.specs.MadeUpLaws.{Sturdy, own-passes, sturdy}
 use Rattle.selector.specs.NodeLaws.{size-some}
 use Rattle.selector.specs.RecordLaws.{gates-sound, words-fit}
-use Rattle.selector.specs.Refusals.{Sound, extraOf, gateCount, gatesNumber, mostGates, wordsFit}
-use Rattle.selector.specs.Search.{bounds, factor, planTree, searchTree}
+use Rattle.base.specs.Limits.{mostGates}
+use Rattle.selector.specs.Inner.{Sound}
+use Rattle.selector.specs.Refusals.{extraOf, gateCount, gatesNumber, wordsFit}
+use Rattle.selector.specs.Search.{bounds, planTree, searchTree}
 use Rattle.selector.specs.SearchLaws.{search-facts}
 use Rattle.selector.specs.Tree.{Tree, leaf}
 use Rattle.parameters.specs.Lookup.{modeOf}
 use Rattle.parameters.specs.Parameters.{flagNumber, lookupOf, parametersNumber, rangeNumber}
 use Rattle.parameters.specs.ParametersLaws.{InRange, in-range, lookup-words}
-use Rattle.tree.specs.Plan.{gatesGiven, padded, parametersOf, partsFault, pathAnswer, pathsAnswer, planAnswer, planExtra, planFault, planNumber, planWith, planned, refusedPlan, treeFor, treeNumber, wordsNumber, zeroPlan}
+use Rattle.tree.specs.Plan.{gatesGiven, gateArray, parametersOf, partsFault, planAnswer, planExtra, planFault, planNumber, planWith, planned, refusedPlan, treeFor, treeNumber, wordsNumber, zeroPlan}
 use Rattle.tree.specs.Shapes.{shapeOf}
 use Rattle.tree.specs.declared.nodes.Shape.{Shape}
 use Rattle.parameters.specs.declared.parameters.Parameters.{Parameters}
@@ -194,7 +195,7 @@ module _ (ps : Parameters) (gs : List ℕ) where
         eq-eqb (parametersNumber ps) 0 (w .parameters),
         le-leb 1 (gateCount gs) (w .some-gates),
         le-leb (gateCount gs) mostGates (w .few-gates),
-        le-leb (gateCount gs * gateWords) (length (padded gs)) (omega (arith, w .words, length-append gs (drop (length gs) (replicate 384 0)))),
+        le-leb (gateCount gs * gateWords) (length (gateArray gs)) (omega (arith, w .words, length-append gs (drop (length gs) (replicate 384 0)))),
         eq-eqb (gatesNumber (ps .mode) (ps .allowed) gs (gateCount gs)) 0 (w .gates),
         own-passes gs (gateCount gs) (extraOf (ps .mode)) (w .sound) t e,
       )
@@ -212,8 +213,3 @@ module _ (ps : Parameters) (gs : List ℕ) where
       let s : searchTree (extraOf (ps .mode)) gs (gateCount gs) ≡ some (p .tree) =
       sym (pick-no (eqb (gateCount gs) 1) (some (leaf 0)) (searchTree (extraOf (ps .mode)) gs (gateCount gs)) (ne-eqb (gateCount gs) 1 n)) ∙ p .is in
       rw (p .plan) (search-facts gs (gateCount gs) (extraOf (ps .mode)) (p .tree) s .most)
-
--- all paths together are the answers for each gate
-pub paths-at : (p : Plan) (g : ℕ) → g < mostGates → (getD (pathsAnswer p .bits) g 0 ≡ pathAnswer p g .bits) × (getD (pathsAnswer p .lengths) g 0 ≡ pathAnswer p g .length)
-unfolding pathsAnswer
-paths-at p g h = (table-at mostGates (λ (k : ℕ). pathAnswer p k .bits) g h, table-at mostGates (λ (k : ℕ). pathAnswer p k .length) g h)

@@ -4,16 +4,16 @@ ghost use mathlib.Core.Bool.{true};
 ghost use Prim.Native.Nat.{ℕ, _+_, _*_, _≤_, _<_};
 ghost use lib.ListN.{length, getD};
 ghost use Rattle.selector.specs.Gates.{gateWords};
-ghost use Rattle.selector.specs.Refusals.{Sound};
+ghost use Rattle.selector.specs.Inner.{Sound};
 ghost use Rattle.selector.specs.Nodes.{treeAt};
 ghost use Rattle.selector.specs.MadeUp.{linkedAt, linkedFrom, wanted, asWanted, nodesFit, numbersAre};
 ghost use Rattle.selector.specs.Walk.{meet, Visited, Links};
 ghost use Rattle.tree.specs.Walks.{walk, Most};
-use crate::gates::GATE_WORDS;
 use crate::gates::constants_of;
 use crate::gates::degree_at_depth;
 use crate::gates::factor_of;
 use crate::plan::Told;
+use selector::GATE_WORDS;
 
 // A leaf is met: a gate that is unlisted or met before ends the walk. `most` has the greatest degree at depth and the greatest constants plus depth so far.
 fn meet(
@@ -137,7 +137,7 @@ fn linked(nodes: &[u64; 765], count: usize) -> bool
 }
 
 // How often a listed gate has to stand at a leaf.
-fn wanted_of(gates: &[u64], many: usize, gate: usize) -> u64
+pub(crate) fn wanted_of(gates: &[u64], many: usize, gate: usize) -> u64
     requires { ⌜ gate * gateWords < length (now gates) ⌝ }
     ensures { λ r. ⌜ r ≡ wanted (now (gates .entry)) many gate ⌝ }
 {

@@ -1,8 +1,10 @@
-// Plans by value: the test for a made-up plan, which is also there for a plan's parts, paths and the table-id index.
+// Plans by value: the test for a made-up plan, which is also there for a plan's parts, paths, what rows need of the gates, and the table-id index.
 ghost use mathlib.Core.Path.{_≡_};
 ghost use Rattle.parameters.specs.Lookup.{flagOf};
-ghost use Rattle.tree.specs.Plan.{zeroPlan, parametersOf, toldOf, partsFault, planFault, pathAnswer, pathsAnswer, tableIdAnswer};
-use crate::gates::GATE_WORDS;
+ghost use Rattle.tree.specs.Plan.{zeroPlan, parametersOf, toldOf, partsFault, planFault, pathAnswer, gateRowsAnswer, tableIdAnswer};
+use crate::gate_rows::GateRows;
+use crate::gate_rows::list_gates;
+use crate::gate_rows::no_gate_rows;
 use crate::made_up::nodes_fit;
 use crate::paths::all_placements;
 use crate::paths::output_placement;
@@ -11,6 +13,7 @@ use crate::refusals::gates_number;
 use crate::refusals::words_fit;
 use parameters::lookup::LookupParameters;
 use parameters::parameters::Parameters;
+use selector::GATE_WORDS;
 
 // Parameters, lookup mode, gates, and the tree in preorder, three words a node; D, K and F. Unused words are 0 in a plan that planning made.
 pub struct Plan {
@@ -41,13 +44,6 @@ pub struct Path {
     pub number: u64,
     pub bits: u64,
     pub length: u64,
-}
-
-// A refusal number, or 0, and each gate's path as `Path` has it; 0 and 0 for a gate that is not listed.
-pub struct Paths {
-    pub number: u64,
-    pub bits: [u64; 128],
-    pub lengths: [u64; 128],
 }
 
 // A refusal number, or 0, and how many table-id columns there are, none or one, with its index.
@@ -203,36 +199,32 @@ impl Plan {
         }
     }
 
-    // The paths of all gates, as `path` gives each: one test of the plan, and one walk of its tree.
-    pub fn paths(self) -> Paths
-        ensures { λ r. ⌜ r ≡ pathsAnswer self ⌝ }
+    // What rows need of each gate: one test of the plan, and one walk of its tree.
+    pub fn gate_rows(self) -> GateRows
+        ensures { λ r. ⌜ r ≡ gateRowsAnswer self ⌝ }
     {
-        let mut bits = [0; 128];
-        let mut lengths = [0; 128];
-        let number = self.fault();
-        if number != 0 {
-            return Paths {
-                number: number,
-                bits: bits,
-                lengths: lengths,
-            };
+        if self.fault() != 0 {
+            return no_gate_rows();
         }
+        let mut bits = [0; 128];
+        let mut steps = [0; 128];
         let nodes = self.nodes;
-        all_placements(
-            &nodes,
-            self.node_count as usize,
-            0,
-            0,
-            1,
-            0,
-            32,
-            &mut bits,
-            &mut lengths,
-        );
-        Paths {
+        let count = self.node_count as usize;
+        all_placements(&nodes, count, 0, 0, 1, 0, 32, &mut bits, &mut steps);
+        let mut selected = [0; 128];
+        let mut own = [0; 128];
+        let gates = self.gates;
+        let many = self.gate_count;
+        let lookup = self.lookup;
+        let extra = extra_of(lookup.mode());
+        list_gates(&gates, many as usize, extra, &mut selected, &mut own);
+        GateRows {
             number: 0,
+            many: many,
             bits: bits,
-            lengths: lengths,
+            steps: steps,
+            selected: selected,
+            own: own,
         }
     }
 

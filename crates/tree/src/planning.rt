@@ -4,13 +4,13 @@ ghost use Prim.Native.Nat.{_≤_};
 ghost use mathlib.Core.List.{_++_};
 ghost use lib.ListN.{length, drop};
 ghost use Rattle.tree.specs.Plan.{wordsNumber, refusedPlan, planAnswer};
-use crate::gates::GATE_WORDS;
 use crate::nodes::shape_of;
 use crate::plan::Plan;
 use crate::refusals::extra_of;
 use crate::refusals::gates_number;
 use crate::refusals::words_fit;
 use parameters::parameters::Parameters;
+use selector::GATE_WORDS;
 
 // A refusal number, or 0, and the plan; after a refusal a plan of zeros.
 pub struct Planned {

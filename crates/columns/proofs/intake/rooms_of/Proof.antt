@@ -10,7 +10,7 @@ use native.Mathlib.Nat.{mul-le-mul}
 use lib.Dec.{ltb}
 use Rattle.base.specs.Pick.{pick}
 use Rattle.parameters.specs.Lookup.{modeOf, widthOf}
-use Rattle.columns.specs.PlanLaws.{Sound, sound}
+use Rattle.tree.specs.SoundLaws.{Sound, sound}
 use borrow.Author.Needs.{needs}
 use Rattle.columns.proofs.intake.rooms_of.Statement.{statement}
 use Rattle.columns.proofs.intake.rooms_of.Tie as tie

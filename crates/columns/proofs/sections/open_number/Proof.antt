@@ -11,7 +11,7 @@ use Rattle.tree.specs.Plan.{planFault}
 use Rattle.pieces.specs.Opening.{roomToOpen}
 use Rattle.columns.specs.Intake.{settingOf, storeOf}
 use Rattle.columns.specs.IntakeLaws.{short-room, long-room, open-19, open-10, open-own}
-use Rattle.columns.specs.PlanLaws.{sound}
+use Rattle.tree.specs.SoundLaws.{sound}
 use Rattle.columns.proofs.sections.open_number.Statement.{statement}
 use Rattle.columns.proofs.sections.open_number.Tie as tie
 

@@ -9,7 +9,7 @@ use Prim.Native.Nat.{ℕ, _+_, _*_, _≤_}
 use lib.ListN.{length}
 use Rattle.pieces.specs.Setting.{constantRoom, copyRoom, tableRoom}
 use Rattle.columns.specs.Intake.{settingOf}
-use Rattle.columns.specs.PlanLaws.{Sound, sound}
+use Rattle.tree.specs.SoundLaws.{Sound, sound}
 use Rattle.tree.specs.Plan.{planPath}
 use Rattle.report.specs.Report.{planLine, pathLines, columnLines, constantName, copyName, tableName, tableColumns, idsLine, reportLines}
 use Rattle.report.specs.ReportLaws.{all-there, table-room, few-tables}

@@ -13,7 +13,8 @@ use Rattle.base.specs.Pick.{pick}
 use Rattle.selector.specs.Gates.{gateWords}
 use Rattle.selector.specs.MadeUp.{nodesFit}
 use Rattle.selector.specs.RecordLaws.{gates-sound}
-use Rattle.selector.specs.Refusals.{extraOf, gatesNumber, mostGates}
+use Rattle.base.specs.Limits.{mostGates}
+use Rattle.selector.specs.Refusals.{extraOf, gatesNumber}
 use Rattle.parameters.specs.Parameters.{parametersNumber}
 use Rattle.tree.specs.Plan.{partsFault}
 use Rattle.tree.proofs.plan.parts_fault.Statement.{statement}

@@ -11,7 +11,7 @@ use lib.ListN.{length, getD}
 use Rattle.pieces.specs.Setting.{cols, stands, constantRoom, copyRoom, specialRoom}
 use Rattle.pieces.specs.NumberLaws.{Stood, stood}
 use Rattle.columns.specs.Intake.{settingOf, stateOf}
-use Rattle.columns.specs.PlanLaws.{Sound, sound}
+use Rattle.tree.specs.SoundLaws.{Sound, sound}
 use Rattle.pieces.specs.Cells.{cellsFault, cellsNumber}
 use Rattle.pieces.specs.CellLaws.{cells-room, cells-named}
 use Rattle.columns.specs.IntakeLaws.{plan-fine, cells-19, cells-10-copies, cells-10-scratch, cells-own, cells-refused, cells-taken}

@@ -10,7 +10,7 @@ use Prim.Native.Nat.{ℕ, _+_, _*_, _<_, _≤_}
 use Rattle.pieces.specs.Setting.{cols, stands, constantRoom, copyRoom, specialRoom}
 use Rattle.pieces.specs.NumberLaws.{Stood, stood}
 use Rattle.columns.specs.Intake.{settingOf, stateOf}
-use Rattle.columns.specs.PlanLaws.{Sound, sound}
+use Rattle.tree.specs.SoundLaws.{Sound, sound}
 use lib.Dec.{eqb}
 use borrow.Author.Tests.{eq-eqb, ne-eqb}
 use Rattle.pieces.specs.Finishing.{complete}

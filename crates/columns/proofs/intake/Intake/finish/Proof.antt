@@ -10,7 +10,7 @@ use Prim.Native.Nat.{ℕ, _+_, _*_, _<_, _≤_}
 use Rattle.pieces.specs.Setting.{cols, stands, constantRoom, copyRoom, specialRoom}
 use Rattle.pieces.specs.NumberLaws.{Stood, stood}
 use Rattle.columns.specs.Intake.{settingOf, stateOf}
-use Rattle.columns.specs.PlanLaws.{Sound, sound}
+use Rattle.tree.specs.SoundLaws.{Sound, sound}
 use Rattle.pieces.specs.Finishing.{complete, allUsed, scratchFine, finishNumber}
 use Rattle.columns.specs.IntakeLaws.{plan-fine, finish-19, finish-10-copies, finish-10-scratch, finish-16, finish-17, finish-18, finish-0, finish-refused, finish-taken}
 use borrow.Author.Needs.{needs}

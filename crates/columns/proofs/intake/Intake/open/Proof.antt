@@ -18,7 +18,7 @@ use Rattle.pieces.specs.Opening.{roomToOpen, openNumber}
 use Rattle.pieces.specs.Writing.{cleared}
 use Rattle.columns.specs.Intake.{settingOf, storeOf, startOf, refusedWith}
 use Rattle.columns.specs.IntakeLaws.{short-room, long-room, open-19, open-10, open-own, opened-long, open-refused, open-taken}
-use Rattle.columns.specs.PlanLaws.{sound}
+use Rattle.tree.specs.SoundLaws.{sound}
 use Rattle.columns.specs.declared.intake.Intake.{Intake}
 use borrow.Author.Needs.{needs}
 use Rattle.columns.proofs.intake.Intake.open.Statement.{statement}

@@ -12,7 +12,7 @@ use lib.ListN.{length, getD}
 use Rattle.pieces.specs.Setting.{cols, stands, constantRoom, copyRoom, specialRoom}
 use Rattle.pieces.specs.NumberLaws.{Stood, stood}
 use Rattle.columns.specs.Intake.{settingOf, stateOf}
-use Rattle.columns.specs.PlanLaws.{Sound, sound}
+use Rattle.tree.specs.SoundLaws.{Sound, sound}
 use Rattle.pieces.specs.SWords.{sWordsFault, sWordsWritten}
 use Rattle.pieces.specs.FaultLaws.{words-room}
 use Rattle.columns.specs.IntakeLaws.{plan-fine, words-19, words-10, words-own, words-refused, words-taken}

@@ -12,7 +12,7 @@ use Rattle.tree.specs.Plan.{planFault}
 use Rattle.parameters.specs.Lookup.{modeOf}
 use Rattle.pieces.specs.Setting.{mostTables, stands}
 use Rattle.columns.specs.Intake.{settingOf, stateOf}
-use Rattle.columns.specs.PlanLaws.{Sound, sound}
+use Rattle.tree.specs.SoundLaws.{Sound, sound}
 use Rattle.columns.proofs.intake.Intake.stands.Statement.{statement}
 use Rattle.columns.proofs.intake.Intake.stands.Tie as tie
 
