@@ -132,6 +132,13 @@ impl Intake {
         }
     }
 
+    // The plan that the state was opened with.
+    pub fn plan(self) -> Plan
+        ensures { λ r. ⌜ r ≡ self .plan ⌝ }
+    {
+        self.plan
+    }
+
     // Whether this is no made-up state: a sound plan, open, and no count past its section.
     fn stands(self) -> bool
         ensures { λ r. ⌜ r ≡ stands (settingOf (self .plan)) (stateOf self) ⌝ }
