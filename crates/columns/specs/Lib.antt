@@ -6,7 +6,7 @@ pub mod Passed
 pub mod Stacked
 pub mod Quick
 pub mod Intake
+pub mod Rooms
 pub mod IntakeLaws
 pub mod Sections
 pub mod SectionsLaws
-pub mod SectionsWorked

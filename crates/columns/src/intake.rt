@@ -5,9 +5,10 @@ ghost use Prim.Native.Nat.{_*_, _+_};
 ghost use Rattle.tree.specs.Plan.{planFault};
 ghost use Rattle.pieces.specs.Setting.{cols, stands};
 ghost use Rattle.base.specs.Pick.{pick};
-ghost use Rattle.pieces.specs.Opening.{roomToOpen};
+ghost use Rattle.pieces.specs.Opening.{roomToOpen, startState};
 ghost use Rattle.pieces.specs.Finishing.{complete};
-ghost use Rattle.columns.specs.Intake.{settingOf, stateOf, storeOf, refusedWith, RoomsOf, openAnswer, openLeft, rowsAnswer, rowsLeft, sWordsAnswer, sWordsLeft, cellsAnswer, cellsLeft, tablesAnswer, tablesLeft, finishAnswer, finishLeft};
+ghost use Rattle.columns.specs.Rooms.{RoomsOf};
+ghost use Rattle.columns.specs.Intake.{settingOf, stateOf, withState, storeOf, refusedWith, openAnswer, openLeft, rowsAnswer, rowsLeft, sWordsAnswer, sWordsLeft, cellsAnswer, cellsLeft, tablesAnswer, tablesLeft, finishAnswer, finishLeft};
 use crate::cells::cells_fault;
 use crate::cells::place_cells;
 use crate::finishing::all_used;
@@ -118,7 +119,7 @@ pub(crate) fn room_number(
 impl Intake {
     // A state before its first piece.
     fn start(plan: Plan, phase: u64) -> Self
-        ensures { λ r. ⌜ r ≡ Rattle.columns.specs.Intake.startOf plan phase ⌝ }
+        ensures { λ r. ⌜ r ≡ withState plan (startState phase) ⌝ }
     {
         Intake {
             plan: plan,

@@ -25,7 +25,8 @@ use Rattle.parameters.specs.declared.parameters.Parameters.{Parameters}
 use Rattle.tree.specs.Plan.{parametersOf, planFault, zeroPlan}
 use Rattle.tree.specs.PlanLaws.{zero-fault}
 use Rattle.tree.specs.declared.plan.Plan.{Plan}
-use Rattle.encoding.specs.Encoding.{handed, headWords, intakeAt, intakeOf, intakeWords, lookupFits, parametersAt, planAt, planLength, planOf, planWords, progressOf, progressWords, progressed, stateLength, tailWords, zeroIntake}
+use Rattle.columns.specs.Intake.{zeroIntake}
+use Rattle.encoding.specs.Encoding.{handed, headWords, intakeAt, intakeOf, intakeWords, lookupFits, parametersAt, planAt, planLength, planOf, planWords, progressOf, progressWords, progressed, stateLength, tailWords}
 
 -- ---- the lookup mode
 pub fits-each : (l : LookupParameters) → lookupFits (modeOf l) (widthOf l) (flagOf (shareOf l)) ≡ true

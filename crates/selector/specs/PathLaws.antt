@@ -93,7 +93,7 @@ module _ (x : ℕ) (gs : List ℕ) (g : ℕ) where
       omega arith
 
 -- what a path in a fork is
-pub data Way (g : ℕ) (l r : Tree) (p : List ℕ) : Type 0 where
+data Way (g : ℕ) (l r : Tree) (p : List ℕ) : Type 0 where
   by-left : (q : List ℕ) → pathTo g l ≡ some q → 1 ∷ q ≡ p → Way g l r p
   by-right : (q : List ℕ) → pathTo g l ≡ none → pathTo g r ≡ some q → 0 ∷ q ≡ p → Way g l r p
 
@@ -102,7 +102,7 @@ way-by g l r p (some q) b x y e = by-left q x (cc)
 way-by g l r p none (some q) x y e = by-right q x y (cc)
 way-by g l r p none none x y e = let z : _≡_ {A = ℕ} 0 1 = cc in absurd (omega arith)
 
-pub way : (g : ℕ) (l r : Tree) (p : List ℕ) → pathTo g (fork l r) ≡ some p → Way g l r p
+way : (g : ℕ) (l r : Tree) (p : List ℕ) → pathTo g (fork l r) ≡ some p → Way g l r p
 unfolding pathTo
 way g l r p e = way-by g l r p (pathTo g l) (pathTo g r) refl refl e
 
@@ -110,7 +110,7 @@ leaf-path : (g h : ℕ) (p : List ℕ) (b : Bool) → eqb g h ≡ b → pick b (
 leaf-path g h p true e k = (eqb-true g h e, cc)
 leaf-path g h p false e k = let z : _≡_ {A = ℕ} 0 1 = cc in absurd (omega arith)
 
-pub path-leaf : (g h : ℕ) (p : List ℕ) → pathTo g (leaf h) ≡ some p → (g ≡ h) × ([] ≡ p)
+path-leaf : (g h : ℕ) (p : List ℕ) → pathTo g (leaf h) ≡ some p → (g ≡ h) × ([] ≡ p)
 unfolding pathTo
 path-leaf g h p e = leaf-path g h p (eqb g h) refl e
 

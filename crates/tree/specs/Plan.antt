@@ -97,9 +97,6 @@ planned ps gs = pick (eqb (planNumber ps gs) 0) (planWith ps gs (shapeOf (extraO
 abbrev pub planAnswer : Parameters → List ℕ → Planned
 planAnswer ps gs = record { number = planNumber ps gs; plan = planned ps gs }
 
-abbrev pub refusedPlan : ℕ → Planned
-refusedPlan n = record { number = n; plan = zeroPlan }
-
 -- the parameter words of a plan
 abbrev pub parametersOf : Plan → Parameters
 parametersOf p =

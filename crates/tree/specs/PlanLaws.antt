@@ -28,11 +28,12 @@ use Rattle.selector.specs.Tree.{Tree, leaf}
 use Rattle.parameters.specs.Lookup.{modeOf}
 use Rattle.parameters.specs.Parameters.{flagNumber, lookupOf, parametersNumber, rangeNumber}
 use Rattle.parameters.specs.ParametersLaws.{InRange, in-range, lookup-words}
-use Rattle.tree.specs.Plan.{gatesGiven, gateArray, parametersOf, partsFault, planAnswer, planExtra, planFault, planNumber, planWith, planned, refusedPlan, treeFor, treeNumber, wordsNumber, zeroPlan}
+use Rattle.tree.specs.Plan.{gatesGiven, gateArray, parametersOf, partsFault, planAnswer, planExtra, planFault, planNumber, planWith, planned, treeFor, treeNumber, wordsNumber, zeroPlan}
 use Rattle.tree.specs.Shapes.{shapeOf}
 use Rattle.tree.specs.declared.nodes.Shape.{Shape}
 use Rattle.parameters.specs.declared.parameters.Parameters.{Parameters}
 use Rattle.tree.specs.declared.plan.Plan.{Plan}
+use Rattle.tree.specs.declared.planning.Planned.{Planned}
 use borrow.Fn.PlainCycle.{is}
 
 -- what a plan that passes 19 is known to have
@@ -82,6 +83,10 @@ pub record Accepted (ps : Parameters) (gs : List ℕ) : Type 0 where
   pub gates : gatesNumber (ps .mode) (ps .allowed) gs (gateCount gs) ≡ 0
   pub sound : Sound gs (gateCount gs) (extraOf (ps .mode))
   pub in-ranges : InRange ps
+
+-- a refusal of planning
+abbrev pub refusedPlan : ℕ → Planned
+refusedPlan n = record { number = n; plan = zeroPlan }
 
 module _ (ps : Parameters) (gs : List ℕ) where
   pub words-accepted : wordsNumber ps gs ≡ 0 → Accepted ps gs

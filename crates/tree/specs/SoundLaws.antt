@@ -36,7 +36,6 @@ use Rattle.tree.specs.Plan.{forListed, gateRowsAnswer, gateRowsOf, gates
 use Rattle.tree.specs.PlanLaws.{Faultless, fault-none}
 use Rattle.tree.specs.declared.gate_rows.GateRows.{GateRows}
 use Rattle.tree.specs.declared.plan.Plan.{Plan}
-use borrow.Fn.PlainCycle.{is}
 
 -- the ranges of a sound plan's numbers, and its paths
 pub record Sound (q : Plan) : Type 0 where

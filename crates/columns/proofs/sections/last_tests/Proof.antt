@@ -12,7 +12,8 @@ use Rattle.pieces.specs.Records.{rowsOf}
 use Rattle.pieces.specs.Finishing.{complete, allUsed}
 use Rattle.columns.specs.Intake.{settingOf}
 use Rattle.tree.specs.SoundLaws.{Sound, sound}
-use Rattle.columns.specs.SectionsLaws.{afterPieces, lastTests, last-same}
+use Rattle.columns.specs.Sections.{afterPieces, lastTests}
+use Rattle.columns.specs.SectionsLaws.{last-same}
 use Rattle.columns.proofs.RowLoop.{GatesOf, gates-of, gates-fault}
 use Rattle.columns.proofs.sections.last_tests.Statement.{statement}
 use Rattle.columns.proofs.sections.last_tests.Tie as tie

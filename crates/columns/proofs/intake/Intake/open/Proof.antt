@@ -14,9 +14,9 @@ use Rattle.labels.specs.Labels.{searchNumber, fillNumber}
 use Rattle.labels.specs.LabelLaws.{written-refused, written-is}
 use Rattle.tree.specs.Plan.{planFault, zeroPlan}
 use Rattle.tree.specs.declared.plan.Plan.{Plan}
-use Rattle.pieces.specs.Opening.{roomToOpen, openNumber}
+use Rattle.pieces.specs.Opening.{roomToOpen, openNumber, zeroState}
 use Rattle.pieces.specs.Writing.{cleared}
-use Rattle.columns.specs.Intake.{settingOf, storeOf, startOf, refusedWith}
+use Rattle.columns.specs.Intake.{settingOf, storeOf, withState, zeroIntake, refusedWith}
 use Rattle.columns.specs.IntakeLaws.{short-room, long-room, open-19, open-10, open-own, opened-long, open-refused, open-taken}
 use Rattle.tree.specs.SoundLaws.{sound}
 use Rattle.columns.specs.declared.intake.Intake.{Intake}
@@ -37,8 +37,8 @@ refused-requires : tie.Need-refused-requires
 refused-requires c κs = search needs
 
 -- the state of zeros that a refusal hands back
-zeros : (c : tie.After-start) → c .start .result ≡ startOf zeroPlan 0
-zeros c = c .start .ensures ∙ ap (λ (q : Plan). startOf q 0) (c .before .zero .ensures)
+zeros : (c : tie.After-start) → c .start .result ≡ zeroIntake
+zeros c = c .start .ensures ∙ ap (λ (q : Plan). withState q zeroState) (c .before .zero .ensures)
 
 fine : (c : tie.Else1) → planFault (c .before .before .before .before .before .before .before .before .args .plan) ≡ 0
 fine c = sym (c .before .fault .ensures) ∙ c .if1 .left
