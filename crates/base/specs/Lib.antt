@@ -1,4 +1,4 @@
--- What every layer cites: definitions and laws that know nothing of fields or circuits.
+-- What every layer cites: definitions and laws that know nothing of fields or circuits, and limits that several layers name.
 pub mod Pick
 pub mod Exponent
 pub mod Drops
@@ -11,3 +11,6 @@ pub mod Roots
 pub mod Fills
 pub mod Quarters
 pub mod Cosets
+pub mod Each
+pub mod Digits
+pub mod Limits

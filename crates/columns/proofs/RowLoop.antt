@@ -12,12 +12,12 @@ use Rattle.pieces.specs.Rows.{rowFault, rowsFault, marked}
 use Rattle.pieces.specs.RecordLaws.{Rest, fault-here, fault-later, read-fuel, rest-whole, rest-done, rest-front}
 use Rattle.pieces.specs.FaultLaws.{RowFine, row-good, rows-own-same}
 use Rattle.pieces.specs.LineLaws.{marks-turn, marks-done}
-use Rattle.selector.specs.Gates.{constantsOf}
-use Rattle.tree.specs.Plan.{gatesGiven, planExtra}
+use Rattle.tree.specs.Plan.{gateRowsAnswer, planFault, planOwn, planPath}
+use Rattle.tree.specs.SoundLaws.{sound, gate-words, gates-many}
+use Rattle.tree.specs.declared.gate_rows.GateRows.{GateRows}
 use Rattle.tree.specs.declared.plan.Plan.{Plan}
 use Rattle.columns.specs.Passed.{Passed}
-use Rattle.columns.specs.Placed.{GatesOf}
-use Rattle.columns.specs.declared.rows.GateRows.{GateRows}
+use Rattle.columns.specs.Placed.{Spells, Fits}
 
 -- the records from place i on
 left : (piece : List ℕ) (i : ℕ) → Rest rowSize piece i (rowsOf (drop i piece))
@@ -91,9 +91,26 @@ module _ (many : ℕ) (own : ℕ → ℕ) (trace : ℕ) (piece : List ℕ) where
       pub passed-marks : used ≡ marked used₀ (rowsOf (drop i₀ piece))
       passed-marks = sym (w .marks ∙ ap (marked used) none ∙ marks-done used)
 
--- ---- the gates' constants are the plan's, so that the test of rows is the plan's
+-- ---- the gates of a sound plan, as its own answer has them
+pub record GatesOf (q : Plan) (r : GateRows) : Type 0 where
+  pub many-is : r .many ≡ q .«gate_count»
+  pub spells-paths : Spells (q .«gate_count») (planPath q) (r .bits) (r .steps)
+  pub room : Fits (q .«gate_count») (q .constants) (r .own) (r .steps)
+  pub own-is : (g : ℕ) → g < q .«gate_count» → getD (r .own) g 0 ≡ planOwn q g
+
+pub gates-of : (q : Plan) (r : GateRows) → planFault q ≡ 0 → r ≡ gateRowsAnswer q → GatesOf q r
+gates-of q r e a =
+    let w = gate-words q e r a in
+    record {
+      many-is = gates-many q e r a;
+      spells-paths = record { spells = λ g h. w g h .path };
+      room = record { fits = λ g h. omega (arith, w g h .path .steps-are, w g h .own, sound q e .fits g h) };
+      own-is = λ g h. w g h .own;
+    }
+
+-- the gates' constants are the plan's, so that the test of rows is the plan's
 pub gates-fault : (q : Plan) (r : GateRows) → GatesOf q r → (N count : ℕ) (ts : List Read)
-    → rowsFault (r .many) (λ (g : ℕ). getD (r .own) g 0) N count ts ≡ rowsFault (q .«gate_count») (constantsOf (planExtra q) (gatesGiven q)) N count ts
+    → rowsFault (r .many) (λ (g : ℕ). getD (r .own) g 0) N count ts ≡ rowsFault (q .«gate_count») (planOwn q) N count ts
 gates-fault q r g N count ts =
     ap (λ (many : ℕ). rowsFault many (λ (k : ℕ). getD (r .own) k 0) N count ts) (g .many-is)
-    ∙ rows-own-same (q .«gate_count») _ (constantsOf (planExtra q) (gatesGiven q)) N count ts (g .own-is)
+    ∙ rows-own-same (q .«gate_count») _ (planOwn q) N count ts (g .own-is)

@@ -19,7 +19,7 @@ use Rattle.pieces.specs.RecordLaws.{Rest, Going, rest-begin, rest-whole, read-f
 use Rattle.pieces.specs.FaultLaws.{row-cut, row-fine, rows-room}
 use Rattle.pieces.specs.ClosedForms.{lines-append, lines-many}
 use Rattle.pieces.specs.LineLaws.{lines-through, rows-done}
-use Rattle.columns.specs.Digits.{digits, Spelled}
+use Rattle.base.specs.Digits.{digits, Spelled}
 use Rattle.columns.specs.Lines.{cutLines, lines-padded}
 use Rattle.columns.specs.Placed.{Blanks, Spells, Stageable, Stages}
 

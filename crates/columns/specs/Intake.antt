@@ -2,29 +2,23 @@
 --
 -- Main definitions: `settingOf`, `stateOf`, `withState`; `openAnswer`, `openLeft`, `rowsAnswer`, `rowsLeft`, `sWordsAnswer`, `sWordsLeft`, `cellsAnswer`, `cellsLeft`,
 -- `tablesAnswer`, `tablesLeft`, `finishAnswer`, `finishLeft`.
-use mathlib.Core.Path.{_≡_}
-use mathlib.Core.Bool.{Bool, true, false}
 use mathlib.Core.List.{List}
-use Prim.Native.Nat.{ℕ, _*_, _≤_}
+use Prim.Native.Nat.{ℕ, _*_}
 use lib.Dec.{ltb, eqb}
-use lib.ListN.{replicate}
 use Rattle.base.specs.Pick.{pick}
 use Rattle.base.specs.Tables.{table}
 use Rattle.labels.specs.Labels.{searchNumber, representativesOf, labelOf}
-use Rattle.selector.specs.Gates.{constantsOf}
-use Rattle.selector.specs.MadeUp.{wanted}
 use Rattle.parameters.specs.Lookup.{modeOf, widthOf}
-use Rattle.tree.specs.Plan.{zeroPlan, gatesGiven, planExtra, planFault, planPath}
+use Rattle.tree.specs.Plan.{zeroPlan, planFault, planOwn, planPath, planPlaced}
 use Rattle.tree.specs.declared.plan.Plan.{Plan}
-use Rattle.pieces.specs.Setting.{Setting, State, Store, Cols, cols, constantRoom, copyRoom, scratchRoom, tableRoom}
-use Rattle.pieces.specs.Opening.{openNumber, openStore, openState, zeroState, mostGates}
+use Rattle.pieces.specs.Setting.{Setting, State, Store, Cols, cols}
+use Rattle.pieces.specs.Opening.{openNumber, openStore, openState, zeroState}
 use Rattle.pieces.specs.Rows.{rowsNumber, rowsWritten, rowsState}
 use Rattle.pieces.specs.SWords.{sWordsNumber, sWordsWritten, sWordsState}
 use Rattle.pieces.specs.Cells.{cellsNumber, cellsWritten, cellsState}
 use Rattle.pieces.specs.Tables.{tablesNumber, tablesWritten, tablesState}
 use Rattle.pieces.specs.Finishing.{finishNumber, finishedCopies, finishedState}
 use Rattle.columns.specs.declared.intake.Intake.{Intake}
-use Rattle.columns.specs.declared.intake.Rooms.{Rooms}
 use Rattle.columns.specs.declared.intake.Taken.{Taken}
 
 -- the labels of all copy cells, column by column
@@ -45,8 +39,8 @@ settingOf q =
       gates = q .«gate_count»;
       height = q .constants;
       path = planPath q;
-      own = constantsOf (planExtra q) (gatesGiven q);
-      placed = λ g. ltb 0 (wanted (gatesGiven q) (q .«gate_count») g);
+      own = planOwn q;
+      placed = planPlaced q;
       labelled = searchNumber (q .trace) (q .copy);
       labels = labelsOf (q .trace) (q .copy);
     }
@@ -77,10 +71,9 @@ withState q s =
       phase = s .phase;
     }
 
--- a state before its first piece
-abbrev pub startOf : Plan → ℕ → Intake
-startOf q phase =
-    record { plan = q; rows = 0; «s_words» = 0; cells = 0; tables = 0; «table_rows» = 0; used = replicate mostGates 0; phase = phase }
+-- "a .. state of zeros, which counts as never opened"
+abbrev pub zeroIntake : Intake
+zeroIntake = withState zeroPlan zeroState
 
 abbrev pub refusedWith : ℕ → Intake → Taken
 refusedWith n s = record { number = n; state = s }
@@ -97,20 +90,12 @@ unlessRefused n new old = pick (eqb n 0) new old
 abbrev pub storeOf : List ℕ → List ℕ → List ℕ → List ℕ → Store
 storeOf constants copies scratch tables = record { constants = constants; cells = cols copies scratch; tables = tables }
 
--- the named words of each buffer
-pub record RoomsOf (x : Setting) (r : Rooms) : Type 0 where
-  pub constants-are : r .constants ≡ constantRoom x
-  pub copies-are : r .copies ≡ copyRoom x
-  pub scratch-is : r .scratch ≡ scratchRoom x
-  pub tables-are : r .tables ≡ tableRoom x
-  pub small : r .constants ≤ 4194304
-
 -- "Refused .. opening hands back a .. state of zeros, which counts as never opened."
 unfoldable pub openAnswer : Plan → Store → Taken
 openAnswer q b =
     pick (eqb (openNumber (settingOf q) b) 0)
     (record { number = 0; state = withState q openState })
-    (refusedWith (openNumber (settingOf q) b) (withState zeroPlan zeroState))
+    (refusedWith (openNumber (settingOf q) b) zeroIntake)
 
 unfoldable pub openLeft : Plan → Store → Store
 openLeft q b = unlessRefused (openNumber (settingOf q) b) (openStore (settingOf q) b) b

@@ -11,18 +11,18 @@ use lib.ListN.{length}
 use lib.Dec.{leb, eqb}
 use borrow.Author.Tests.{eq-eqb, ne-eqb, eqb-true, le-leb, lt-leb, leb-true}
 use Rattle.base.specs.Pick.{pick, both, pick-yes, pick-no, both-true}
-use Rattle.tree.specs.Plan.{planFault, zeroPlan}
+use Rattle.tree.specs.Plan.{planFault}
 use Rattle.tree.specs.declared.plan.Plan.{Plan}
 use Rattle.pieces.specs.Setting.{Setting, State, Store, Cols, stands, constantRoom, copyRoom, scratchRoom, tableRoom, specialRoom}
 use Rattle.pieces.specs.Records.{rowsOf, tablesOf}
-use Rattle.pieces.specs.Opening.{roomToOpen, openNumber, openStore}
+use Rattle.pieces.specs.Opening.{roomToOpen, openNumber, openStore, openState}
 use Rattle.pieces.specs.Rows.{rowsFault, rowsNumber, rowsWritten, rowsState}
 use Rattle.pieces.specs.SWords.{sWordsFault, sWordsNumber, sWordsWritten, sWordsState}
 use Rattle.pieces.specs.Cells.{cellsFault, cellsNumber, roomForCells, cellsWritten, cellsState}
 use Rattle.pieces.specs.Tables.{tablesFault, tablesNumber, tablesWritten, tablesState, stackOf}
 use Rattle.pieces.specs.Finishing.{complete, allUsed, scratchFine, finishNumber, finishedCopies, finishedState}
 use Rattle.pieces.specs.NumberLaws.{stood}
-use Rattle.columns.specs.Intake.{settingOf, stateOf, withState, startOf, answered, unlessRefused, refusedWith, openAnswer, openLeft, rowsAnswer, rowsLeft, sWordsAnswer, sWordsLeft, cellsAnswer, cellsLeft, tablesAnswer, tablesLeft, finishAnswer, finishLeft}
+use Rattle.columns.specs.Intake.{settingOf, stateOf, withState, zeroIntake, answered, unlessRefused, refusedWith, openAnswer, openLeft, rowsAnswer, rowsLeft, sWordsAnswer, sWordsLeft, cellsAnswer, cellsLeft, tablesAnswer, tablesLeft, finishAnswer, finishLeft}
 use Rattle.columns.specs.declared.intake.Intake.{Intake}
 use Rattle.columns.specs.declared.intake.Taken.{Taken}
 
@@ -200,11 +200,11 @@ module _ (q : Plan) (b : Store) where
       let l = both-true (leb (scratchRoom o) (length (b .cells .scratch))) t3 (k .1) in
       (leb-true (constantRoom o) (length (b .constants)) (h .0), leb-true (copyRoom o) (length (b .cells .copies)) (k .0), leb-true (scratchRoom o) (length (b .cells .scratch)) (l .0), leb-true (tableRoom o) (length (b .tables)) (l .1))
 
-  pub open-refused : (n : ℕ) → openNumber o b ≡ n → n ≢ 0 → (refusedWith n (startOf zeroPlan 0) ≡ openAnswer q b) × (b ≡ openLeft q b)
+  pub open-refused : (n : ℕ) → openNumber o b ≡ n → n ≢ 0 → (refusedWith n zeroIntake ≡ openAnswer q b) × (b ≡ openLeft q b)
   unfolding openAnswer openLeft
   open-refused n e d = rw e (sym (rw (ne-eqb n 0 d)), refused-left n (openStore o b) b d)
 
-  pub open-taken : openNumber o b ≡ 0 → (_≡_ {A = Taken} (record { number = 0; state = startOf q 1 }) (openAnswer q b)) × (openStore o b ≡ openLeft q b)
+  pub open-taken : openNumber o b ≡ 0 → (_≡_ {A = Taken} (record { number = 0; state = withState q openState }) (openAnswer q b)) × (openStore o b ≡ openLeft q b)
   unfolding openAnswer openLeft
   open-taken e = (sym (rw (eq-eqb (openNumber o b) 0 e)), taken-left (openNumber o b) (openStore o b) b e)
 

@@ -1,15 +1,12 @@
 -- 01, 'Columns by pieces': what the code's types mean in the definitions of `pieces`.
-pub mod Digits
 pub mod Fours
 pub mod Lines
 pub mod Placed
 pub mod Passed
 pub mod Stacked
 pub mod Quick
-pub mod TreeLaws
-pub mod PlanLaws
 pub mod Intake
+pub mod Rooms
 pub mod IntakeLaws
 pub mod Sections
 pub mod SectionsLaws
-pub mod SectionsWorked

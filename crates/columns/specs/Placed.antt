@@ -1,19 +1,15 @@
 -- What the rows of a call need of the gates: path and number of constants of each, as lists by the gate's place.
 --
--- Main definitions: `Spells`, `Fits`, `Stageable`, `Blanks`, `Stages`, `GatesOf`.
+-- Main definitions: `Spells`, `Fits`, `Stageable`, `Blanks`, `Stages`.
 use mathlib.Core.Path.{_≡_}
 use mathlib.Core.List.{List, _++_, map}
 use Prim.Native.Nat.{ℕ, _+_, _*_, _≤_, _<_}
 use lib.ListN.{length, getD, drop}
-use Rattle.selector.specs.Gates.{constantsOf}
-use Rattle.tree.specs.Plan.{gatesGiven, planExtra, planPath}
-use Rattle.tree.specs.declared.plan.Plan.{Plan}
 use Rattle.pieces.specs.Records.{Read, rowsOf}
 use Rattle.pieces.specs.Rows.{rowsFault, rowLines}
 use Rattle.pieces.specs.Writing.{padded}
-use Rattle.columns.specs.Digits.{digits, Spelled}
+use Rattle.base.specs.Digits.{digits, Spelled}
 use Rattle.columns.specs.Lines.{cutLines}
-use Rattle.columns.specs.declared.rows.GateRows.{GateRows}
 
 -- the words `bits` and `steps` spell the paths of `many` gates
 pub record Spells (many : ℕ) (path : ℕ → List ℕ) (bits steps : List ℕ) : Type 0 where
@@ -49,10 +45,3 @@ pub record Stages (height : ℕ) (bits steps piece stage : List ℕ) (next rows 
   pub long : length stage ≡ 2048
   pub lines : (many : ℕ) (own : ℕ → ℕ) (trace count : ℕ) (path : ℕ → List ℕ) → rowsFault many own trace count (rowsOf piece) ≡ 0 → Spells many path bits steps
       → cutLines height 64 rows stage ≡ map (padded height) (rowLines path read)
-
--- the gates of a sound plan
-pub record GatesOf (q : Plan) (r : GateRows) : Type 0 where
-  pub many-is : r .many ≡ q .«gate_count»
-  pub spells-paths : Spells (q .«gate_count») (planPath q) (r .bits) (r .steps)
-  pub room : Fits (q .«gate_count») (q .constants) (r .own) (r .steps)
-  pub own-is : (g : ℕ) → g < q .«gate_count» → getD (r .own) g 0 ≡ constantsOf (planExtra q) (gatesGiven q) g

@@ -1,7 +1,7 @@
 -- Laws of the sections' numbers. Once opening is accepted and while each call is, the state stands and every buffer stays long enough, so that a call's number is
 -- its own section's and reads no buffer.
 --
--- Main definitions: `Ready`, `piecesFault`, `lastTests`. Main statements: `first-append`, `first-pieces`, `run-pieces`, `number-open`, `number-pieces`, `number-last`, `finish-tested`.
+-- Main definition: `Ready`. Main statements: `first-append`, `first-pieces`, `run-pieces`, `number-open`, `number-pieces`, `number-last`, `finish-tested`.
 use mathlib.Core.Path.{_≡_, refl, sym, ap, _∙_}
 use mathlib.Core.Logic.{_≢_}
 use mathlib.Core.Bool.{Bool, true, false}
@@ -20,11 +20,12 @@ use Rattle.tree.specs.Plan.{planFault}
 use Rattle.tree.specs.declared.plan.Plan.{Plan}
 use Rattle.pieces.specs.Setting.{Setting, State, Store, Held, Cols, constantRoom, copyRoom, scratchRoom, tableRoom, specialRoom, mostTables, isOpened, stands}
 use Rattle.pieces.specs.Records.{Read, rowsOf, tablesOf}
-use Rattle.pieces.specs.Opening.{mostGates, roomToOpen, openNumber, openState, fresh}
-use Rattle.pieces.specs.Rows.{rowLines, rowsFault, rowsNumber, rowsWritten, rowsState, marked}
-use Rattle.pieces.specs.SWords.{sWordsFault, sWordsNumber, sWordsWritten, sWordsState}
-use Rattle.pieces.specs.Cells.{placeholder, indexOf, value, firstSeen, seenAgain, placeCell, cellsRun, cellsFault, cellsNumber, roomForCells, cellsState}
-use Rattle.pieces.specs.Tables.{tableLines, tablesFault, tablesNumber, tablesWritten, tablesState, stackOf, sumRows}
+use Rattle.base.specs.Limits.{mostGates}
+use Rattle.pieces.specs.Opening.{roomToOpen, openNumber, openState, fresh}
+use Rattle.pieces.specs.Rows.{rowLines, rowsFault, rowsNumber, rowsWritten, marked}
+use Rattle.pieces.specs.SWords.{sWordsFault, sWordsNumber, sWordsWritten}
+use Rattle.pieces.specs.Cells.{placeholder, indexOf, value, firstSeen, seenAgain, placeCell, cellsRun, cellsFault, cellsNumber, roomForCells}
+use Rattle.pieces.specs.Tables.{tableLines, tablesFault, tablesNumber, tablesWritten, stackOf, sumRows}
 use Rattle.pieces.specs.Finishing.{complete, allUsed, scratchFine, finishNumber}
 use Rattle.pieces.specs.Calls.{Call, rows, sWords, cellWords, tableWords, number, taken, after, run}
 use Rattle.pieces.specs.WriteLaws.{put-length, lines-length}
@@ -33,7 +34,7 @@ use Rattle.pieces.specs.CellLaws.{run-copies, cells-room}
 use Rattle.pieces.specs.FaultLaws.{rows-room, words-room, tables-room, no-tables}
 use Rattle.pieces.specs.ClosedForms.{cleared-long}
 use Rattle.columns.specs.Intake.{settingOf}
-use Rattle.columns.specs.Sections.{firstRefusal, sections, finishTested, sectionsNumber}
+use Rattle.columns.specs.Sections.{firstRefusal, sections, piecesFault, afterPieces, lastTests, finishTested, sectionsNumber}
 
 -- ---- the first refusal of a list
 pub or-under : (f a b : ℕ) → (f ≡ 0 → a ≡ b) → orNumber f a ≡ orNumber f b
@@ -57,7 +58,7 @@ or-assoc a b c = go (ℕ-discrete a 0)
     go (yes z) = ap (λ (n : ℕ). orNumber n c) (first-none a b z) ∙ sym (first-none a (orNumber b c) z)
     go (no d) = ap (λ (n : ℕ). orNumber n c) (first-found a b d) ∙ first-found a c d ∙ sym (first-found a (orNumber b c) d)
 
-pub after-taken : (x : Setting) (c : Call) (h : Held) → number x c h ≡ 0 → after x c h ≡ taken x c h
+after-taken : (x : Setting) (c : Call) (h : Held) → number x c h ≡ 0 → after x c h ≡ taken x c h
 unfolding after
 after-taken x c h e = rw (eq-eqb (number x c h) 0 e)
 
@@ -251,20 +252,6 @@ module _ (x : Setting) (h : Held) (k : Ready x h) where
       }
 
 -- ---- the four sections, by their own numbers alone
-abbrev pub piecesFault : Setting → List ℕ → List ℕ → List ℕ → List ℕ → ℕ
-piecesFault x r s c t =
-    orNumber (rowsFault (x .gates) (x .own) (x .trace) 0 (rowsOf r))
-    (orNumber (sWordsFault (specialRoom x) 0 s)
-    (orNumber (cellsFault (copyRoom x) (x .variables) 0 c) (tablesFault (x .lookup) (x .width) (x .trace) (stackOf openState) (tablesOf t))))
-
--- the state after them
-abbrev pub afterPieces : List ℕ → List ℕ → List ℕ → List ℕ → State
-afterPieces r s c t = tablesState (cellsState (sWordsState (rowsState openState r) s) c) t
-
--- "16 ..; 17 .." of that state
-abbrev pub lastTests : Setting → State → ℕ
-lastTests x s = pick (complete x s) (pick (allUsed (x .gates) (s .used)) 0 17) 16
-
 module _ (x : Setting) (b : Store) (r s c t : List ℕ) (k : Ready x (fresh x b)) where
   abbrev f₁ : ℕ
   f₁ = rowsFault (x .gates) (x .own) (x .trace) 0 (rowsOf r)

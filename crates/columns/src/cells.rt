@@ -5,14 +5,15 @@ ghost use Prim.Native.Nat.{ℕ, _+_, _*_, _^_, _<_, _≤_};
 ghost use lib.ListN.{drop, length, getD};
 ghost use Rattle.pieces.specs.Setting.{cols};
 ghost use Rattle.pieces.specs.Cells.{placeholder, indexOf, cellFault, cellsFault, placeCell, cellsRun};
-ghost use lib.Dec.{eqb};
+ghost use lib.Dec.{eqb, leb};
 ghost use Rattle.base.specs.Pick.{pick};
 ghost use Rattle.base.specs.Quarters.{Fourfold};
 ghost use Rattle.columns.specs.Fours.{Placeable, placeFour};
 ghost use Rattle.columns.specs.Quick.{Named};
 use cs::Variable;
 
-const HIGHEST_BIT: u64 = 9223372036854775808;
+// What the quick test says of a word, as a bit that no difference of small numbers has but by a borrow.
+const NAMED: u64 = 9223372036854775808;
 
 // The number of one cell word, 0 where it has no fault.
 fn cell_fault(total: u64, vars: u64, cell: u64, variable: Variable) -> u64
@@ -48,13 +49,23 @@ fn first_fault(total: u64, vars: u64, count: u64, piece: &[u64]) -> u64
     0
 }
 
-// A word whose highest bit is set only for a placeholder and for the index of a variable with no bits
-// above it: the difference borrows below the number of variables. There is no branch.
-fn is_named(vars: u64, word: u64) -> u64
-    requires { ⌜ vars ≤ 4294967296 ⌝ }
-    ensures { λ r. ⌜ (2 ^ 63 ≤ r → word < placeholder → indexOf word < vars) ⌝ }
+// `NAMED` for a placeholder, else 0: the compiler makes the choice without a branch.
+fn if_placeholder(variable: Variable) -> u64
+    ensures { λ r. ⌜ r ≡ pick (leb placeholder (variable .0)) (2 ^ 63) 0 ⌝ }
 {
-    std::num::wrapping_sub_u64(word, vars) | word
+    if variable.is_placeholder() {
+        return NAMED;
+    }
+    0
+}
+
+// A word that has the bit `NAMED` for a placeholder and for the index of a variable: the difference
+// borrows below the number of variables.
+fn is_named(vars: u64, variable: Variable) -> u64
+    requires { ⌜ vars ≤ 4294967296 ⌝ }
+    ensures { λ r. ⌜ (2 ^ 63 ≤ r → variable .0 < placeholder → indexOf (variable .0) < vars) ⌝ }
+{
+    std::num::wrapping_sub_u64(variable.as_variable_index(), vars) | if_placeholder(variable)
 }
 
 // The same for the words at place `at` and one, two and three times `step` behind it, all four.
@@ -62,8 +73,12 @@ fn four_named(vars: u64, piece: &[u64], at: usize, step: usize) -> u64
     requires { ⌜ (vars ≤ 4294967296) × (at + 3 * step < length (now piece)) ⌝ }
     ensures { λ r. ⌜ (2 ^ 63 ≤ r → Fourfold (Named vars (now (piece .entry))) step at) ⌝ }
 {
-    let near = is_named(vars, piece[at]) & is_named(vars, piece[at + step]);
-    let far = is_named(vars, piece[at + 2 * step]) & is_named(vars, piece[at + 3 * step]);
+    let first = Variable(piece[at]);
+    let second = Variable(piece[at + step]);
+    let third = Variable(piece[at + 2 * step]);
+    let fourth = Variable(piece[at + 3 * step]);
+    let near = is_named(vars, first) & is_named(vars, second);
+    let far = is_named(vars, third) & is_named(vars, fourth);
     near & far
 }
 
@@ -76,13 +91,13 @@ fn all_named(vars: u64, piece: &[u64]) -> bool
 {
     let step = piece.len() / 4;
     let turns = piece.len() - 3 * step;
-    let mut named: u64 = HIGHEST_BIT;
+    let mut named: u64 = NAMED;
     let mut i = 0;
     while i < turns {
         named = named & four_named(vars, piece, i, step);
         i = i + 1;
     }
-    HIGHEST_BIT <= named
+    NAMED <= named
 }
 
 // The number of the first faulty word of a piece.

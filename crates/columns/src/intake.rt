@@ -5,15 +5,15 @@ ghost use Prim.Native.Nat.{_*_, _+_};
 ghost use Rattle.tree.specs.Plan.{planFault};
 ghost use Rattle.pieces.specs.Setting.{cols, stands};
 ghost use Rattle.base.specs.Pick.{pick};
-ghost use Rattle.pieces.specs.Opening.{roomToOpen};
+ghost use Rattle.pieces.specs.Opening.{roomToOpen, startState};
 ghost use Rattle.pieces.specs.Finishing.{complete};
-ghost use Rattle.columns.specs.Intake.{settingOf, stateOf, storeOf, refusedWith, RoomsOf, openAnswer, openLeft, rowsAnswer, rowsLeft, sWordsAnswer, sWordsLeft, cellsAnswer, cellsLeft, tablesAnswer, tablesLeft, finishAnswer, finishLeft};
+ghost use Rattle.columns.specs.Rooms.{RoomsOf};
+ghost use Rattle.columns.specs.Intake.{settingOf, stateOf, withState, storeOf, refusedWith, openAnswer, openLeft, rowsAnswer, rowsLeft, sWordsAnswer, sWordsLeft, cellsAnswer, cellsLeft, tablesAnswer, tablesLeft, finishAnswer, finishLeft};
 use crate::cells::cells_fault;
 use crate::cells::place_cells;
 use crate::finishing::all_used;
 use crate::finishing::scratch_fine;
 use crate::finishing::write_firsts;
-use crate::gates::gate_rows;
 use crate::opening::clear;
 use crate::opening::clear_again;
 use crate::records::write_many;
@@ -119,7 +119,7 @@ pub(crate) fn room_number(
 impl Intake {
     // A state before its first piece.
     fn start(plan: Plan, phase: u64) -> Self
-        ensures { λ r. ⌜ r ≡ Rattle.columns.specs.Intake.startOf plan phase ⌝ }
+        ensures { λ r. ⌜ r ≡ withState plan (startState phase) ⌝ }
     {
         Intake {
             plan: plan,
@@ -133,21 +133,27 @@ impl Intake {
         }
     }
 
+    // The plan that the state was opened with.
+    pub fn plan(self) -> Plan
+        ensures { λ r. ⌜ r ≡ self .plan ⌝ }
+    {
+        self.plan
+    }
+
     // Whether this is no made-up state: a sound plan, open, and no count past its section.
     fn stands(self) -> bool
         ensures { λ r. ⌜ r ≡ stands (settingOf (self .plan)) (stateOf self) ⌝ }
     {
         let plan = self.plan;
         // not `plan.fault()`: each call on a state asks this, and the plan would be handed over by value
+        let told = plan.told();
         let number = parts_fault(
             plan.parameters(),
             &plan.gates,
             plan.gate_count,
             &plan.nodes,
             plan.node_count,
-            plan.degree,
-            plan.constants,
-            plan.factor,
+            told,
         );
         if number != 0 {
             return false;
@@ -225,7 +231,7 @@ impl Intake {
             if constants.len() < rooms_of(plan).constants {
                 return refused(10, self);
             }
-            let gates = gate_rows(plan);
+            let gates = plan.gate_rows();
             let own = gates.own;
             let mut used = self.used;
             let tested = test_rows(gates.many, &own, plan.trace, self.rows, piece, &mut used);

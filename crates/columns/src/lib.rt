@@ -1,7 +1,6 @@
 // 01, 'Columns by pieces': constant, copy and table columns, given in pieces.
 mod cells;
 mod finishing;
-mod gates;
 pub mod intake;
 mod opening;
 mod records;

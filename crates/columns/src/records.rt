@@ -9,7 +9,7 @@ ghost use Rattle.base.specs.Quarters.{Fourfold};
 ghost use Rattle.pieces.specs.Records.{allBelow};
 ghost use Rattle.pieces.specs.RecordLaws.{Below};
 ghost use Rattle.pieces.specs.Writing.{put, putLines};
-ghost use Rattle.columns.specs.Digits.{digits};
+ghost use Rattle.base.specs.Digits.{digits};
 ghost use Rattle.columns.specs.Lines.{strided, cutLines};
 
 // Whether the words at place `at` and one, two and three times `step` behind it are below p.

@@ -6,21 +6,14 @@ ghost use lib.ListN.{length, getD};
 ghost use Rattle.pieces.specs.Records.{rowsOf};
 ghost use Rattle.pieces.specs.Writing.{put, padded, putLines};
 ghost use Rattle.pieces.specs.Rows.{rowsFault, rowLines};
-ghost use Rattle.columns.specs.Digits.{digits};
+ghost use Rattle.base.specs.Digits.{digits};
 ghost use Rattle.columns.specs.Placed.{Blanks, Spells, Fits, Stageable, Stages};
 use crate::records::write_few;
 use crate::records::write_lines;
 use crate::records::write_path;
 use crate::records::write_same;
 use crate::records::write_words;
-
-// The path and the number of constants of each gate, as the rows of a call need them.
-pub struct GateRows {
-    pub many: u64,
-    pub bits: [u64; 128],
-    pub steps: [u64; 128],
-    pub own: [u64; 128],
-}
+use tree::gate_rows::GateRows;
 
 // A gate's line without constants at place `at`: the path's digits, then zeros.
 fn write_blank(at: usize, height: u64, bits: u64, steps: u64, buffer: &mut [u64])

@@ -9,11 +9,9 @@ ghost use Rattle.pieces.specs.Records.{rowsOf};
 ghost use Rattle.pieces.specs.Opening.{openNumber};
 ghost use Rattle.pieces.specs.Rows.{rowsFault};
 ghost use Rattle.columns.specs.Intake.{settingOf, storeOf};
-ghost use Rattle.columns.specs.Sections.{sectionsNumber};
-ghost use Rattle.columns.specs.SectionsLaws.{piecesFault, afterPieces, lastTests};
+ghost use Rattle.columns.specs.Sections.{sectionsNumber, piecesFault, afterPieces, lastTests};
 use crate::cells::cells_fault;
 use crate::finishing::all_used;
-use crate::gates::gate_rows;
 use crate::intake::Intake;
 use crate::intake::OPEN;
 use crate::intake::room_number;
@@ -47,7 +45,7 @@ fn pieces_fault(plan: Plan, rows: &[u64], s_words: &[u64], cells: &[u64], tables
     requires { ⌜ planFault plan ≡ 0 ⌝ }
     ensures { λ r. ⌜ r ≡ piecesFault (settingOf plan) (now (rows .entry)) (now («s_words» .entry)) (now (cells .entry)) (now (tables .entry)) ⌝ }
 {
-    let gates = gate_rows(plan);
+    let gates = plan.gate_rows();
     let own = gates.own;
     // not read: finishing comes later
     let mut marks = [0; 128];
@@ -74,7 +72,7 @@ fn last_tests(plan: Plan, rows: &[u64], s_words: &[u64], cells: &[u64]) -> u64
     requires { ⌜ rowsFault (settingOf plan .gates) (settingOf plan .own) (settingOf plan .trace) 0 (rowsOf (now rows)) ≡ 0 ⌝ }
     ensures { λ r. ⌜ ((t : List ℕ) → r ≡ lastTests (settingOf plan) (afterPieces (now (rows .entry)) (now («s_words» .entry)) (now (cells .entry)) t)) ⌝ }
 {
-    let gates = gate_rows(plan);
+    let gates = plan.gate_rows();
     let own = gates.own;
     let mut used = [0; 128];
     let tested = test_rows(gates.many, &own, plan.trace, 0, rows, &mut used);

@@ -7,11 +7,10 @@ use lib.ListN.{drop, getD, length, take}
 use mathlib.Core.Bool.{Bool, true}
 use mathlib.Core.List.{List, [], _++_, _∷_}
 use Rattle.base.specs.Pick.{both, pick}
-use Rattle.columns.specs.Intake.{startOf}
+use Rattle.columns.specs.Intake.{zeroIntake}
 use Rattle.columns.specs.declared.intake.Intake.{Intake}
 use Rattle.parameters.specs.Lookup.{flagOf, modeOf, shareOf, widthOf}
 use Rattle.parameters.specs.Parameters.{lookupOf, parametersAt}
-use Rattle.pieces.specs.Setting.{neverOpened}
 use Rattle.tree.specs.Plan.{zeroPlan}
 use Rattle.tree.specs.declared.plan.Plan.{Plan}
 
@@ -93,10 +92,6 @@ intakeAt ws =
       used = take 128 (drop 1167 ws);
       phase = getD ws 1295 0;
     }
-
--- the state of zeros, "which counts as never opened"
-abbrev pub zeroIntake : Intake
-zeroIntake = startOf zeroPlan neverOpened
 
 -- the state of any words. Where the plan's words encode none its plan is that of zeros, and the state a made-up one.
 unfoldable pub intakeOf : List ℕ → Intake

@@ -17,14 +17,16 @@ use native.Mathlib.Omega.{arith}
 use Rattle.base.specs.Pick.{both, both-true, pick, pick-no, pick-yes}
 use Rattle.columns.specs.declared.intake.Intake.{Intake}
 use Rattle.parameters.specs.Lookup.{flagOf, modeOf, shareOf, widthOf}
-use Rattle.parameters.specs.Parameters.{parametersAt, lookupOf, parametersNumber}
+use Rattle.parameters.specs.Parameters.{parametersAt, lookupOf}
 use Rattle.parameters.specs.ParametersLaws.{LookupWords}
 use Rattle.parameters.specs.declared.lookup.LookupParameters.the-variants.{NoLookup, TableIdAsConstant, TableIdAsVariable, UseSpecializedColumnsWithTableIdAsConstant, UseSpecializedColumnsWithTableIdAsVariable}
 use Rattle.parameters.specs.declared.lookup.LookupParameters.{LookupParameters}
 use Rattle.parameters.specs.declared.parameters.Parameters.{Parameters}
 use Rattle.tree.specs.Plan.{parametersOf, planFault, zeroPlan}
+use Rattle.tree.specs.PlanLaws.{zero-fault}
 use Rattle.tree.specs.declared.plan.Plan.{Plan}
-use Rattle.encoding.specs.Encoding.{handed, headWords, intakeAt, intakeOf, intakeWords, lookupFits, planAt, planLength, planOf, planWords, progressOf, progressWords, progressed, stateLength, tailWords, zeroIntake}
+use Rattle.columns.specs.Intake.{zeroIntake}
+use Rattle.encoding.specs.Encoding.{handed, headWords, intakeAt, intakeOf, intakeWords, lookupFits, planAt, planLength, planOf, planWords, progressOf, progressWords, progressed, stateLength, tailWords}
 
 -- ---- the lookup mode
 fits-each : (l : LookupParameters) → lookupFits (modeOf l) (widthOf l) (flagOf (shareOf l)) ≡ true
@@ -363,15 +365,6 @@ state-made ws e q us eq eu =
     ∙ state-read ws e
 
 -- ---- words that are decoded and encoded again
--- the plan of zeros is a made-up one
-pub zero-fault : planFault zeroPlan ≡ 19
-unfolding planFault
-zero-fault = by (eqb (parametersNumber (parametersOf zeroPlan)) 0)
-  where
-    by : (t : Bool) → _≡_ {A = ℕ} (pick t 19 19) 19
-    by true = refl
-    by false = refl
-
 -- the lookup mode of three words that fit answers for them
 mode-again : (p : Parameters) → lookupFits (p .mode) (p .width) (p .share) ≡ true → LookupWords p (lookupOf p)
 unfolding lookupFits lookupOf

@@ -24,7 +24,7 @@ use Rattle.field.specs.FieldLaws.{domain-root, fmul-below}
 use Rattle.labels.specs.Refusals.{outOfRange, candidatesReachP}
 use Rattle.labels.specs.Ranges.{rangesFit, mostColumns}
 use Rattle.labels.specs.RangesLaws.{Ranges, ranges-fit, some-row}
-use Rattle.labels.specs.Labels.{domainGenerator, found, searchNumber, padded, representativesNumber, representativesOf, labelOf, labelNumber, labelAnswer, fillNumber, labelsWritten}
+use Rattle.labels.specs.Labels.{domainGenerator, found, searchNumber, columnWords, representativesNumber, representativesOf, labelOf, labelNumber, labelAnswer, fillNumber, labelsWritten}
 use Rattle.labels.specs.Search.{found-chosen}
 use Rattle.labels.specs.Filling.{generator-root}
 
@@ -93,7 +93,7 @@ search-enough n c z = go (decLt (length (found n c .values)) c)
 pub record AcceptedSearch (n c : ℕ) : Type 0 where
   pub ranges : Ranges n c
   pub enough : c ≤ length (found n c .values)
-  pub answer : representativesOf n c ≡ padded (found n c .values)
+  pub answer : representativesOf n c ≡ columnWords (found n c .values)
 
 accepted-search : (n c : ℕ) → representativesNumber n c ≡ 0 → AcceptedSearch n c
 unfolding representativesNumber representativesOf
@@ -106,7 +106,7 @@ accepted-search n c z =
     }
 
 -- the word of a column that has one
-padded-at : (xs : List ℕ) (i : ℕ) → i < length xs → getD (padded xs) i 0 ≡ getD xs i 0
+padded-at : (xs : List ℕ) (i : ℕ) → i < length xs → getD (columnWords xs) i 0 ≡ getD xs i 0
 padded-at xs i h = List·getD-append xs (replicate (mostColumns - length xs) 0) 0 i h
 
 module _ (n c : ℕ) (z : representativesNumber n c ≡ 0) where

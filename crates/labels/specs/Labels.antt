@@ -60,8 +60,8 @@ unfoldable pub searchNumber : ℕ → ℕ → ℕ
 searchNumber n c = pick (ltb (length (found n c .values)) c) candidatesReachP 0
 
 -- the words of a list, then zeros: as many as columns there may be
-abbrev pub padded : List ℕ → List ℕ
-padded xs = xs ++ replicate (mostColumns - length xs) 0
+abbrev pub columnWords : List ℕ → List ℕ
+columnWords xs = xs ++ replicate (mostColumns - length xs) 0
 
 -- "Labels asked for by themselves: 1 N or C outside its range, [..]; 9."
 unfoldable pub representativesNumber : ℕ → ℕ → ℕ
@@ -69,7 +69,7 @@ representativesNumber n c = pick (rangesFit n c) (searchNumber n c) outOfRange
 
 -- "The answer is then zeros": 64 words, the representatives of columns 0 to c - 1 and then zeros
 unfoldable pub representativesOf : ℕ → ℕ → List ℕ
-representativesOf n c = pick (eqb (representativesNumber n c) 0) (padded (found n c .values)) (replicate mostColumns 0)
+representativesOf n c = pick (eqb (representativesNumber n c) 0) (columnWords (found n c .values)) (replicate mostColumns 0)
 
 -- "The label of cell (c, r) is its column's representative times w^r", for any list of representatives. A cell is the number cN+r.
 unfoldable pub labelOf : ℕ → List ℕ → ℕ → ℕ

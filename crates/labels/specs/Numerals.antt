@@ -13,7 +13,7 @@ use Rattle.base.specs.Tables.{table}
 use Rattle.field.specs.Field.{p, fmul, fpow, isNonResidue, squared}
 use Rattle.field.specs.Numerals.{power, generator-is}
 use Rattle.labels.specs.Ranges.{rangesFit}
-use Rattle.labels.specs.Labels.{Columns, absent, tried, searchFrom, found, firstColumn, searchNumber, padded, representativesNumber, representativesOf, domainGenerator, labelOf}
+use Rattle.labels.specs.Labels.{Columns, absent, tried, searchFrom, found, firstColumn, searchNumber, columnWords, representativesNumber, representativesOf, domainGenerator, labelOf}
 
 module _ (test test' : ℕ → Bool) (power power' : ℕ → ℕ) (same-test : (k : ℕ) → test k ≡ test' k) (same-power : (k : ℕ) → power k ≡ power' k) where
   tried-same : (k : ℕ) (s : Columns) → tried test power k s ≡ tried test' power' k s
@@ -43,7 +43,7 @@ known-number : (n c : ℕ) (vs : List ℕ) → rangesFit n c ≡ true → found 
 unfolding representativesNumber searchNumber
 known-number n c vs h e l = rw (h, e, l)
 
-known-answer : (n c : ℕ) (vs : List ℕ) → representativesNumber n c ≡ 0 → found n c .values ≡ vs → representativesOf n c ≡ padded vs
+known-answer : (n c : ℕ) (vs : List ℕ) → representativesNumber n c ≡ 0 → found n c .values ≡ vs → representativesOf n c ≡ columnWords vs
 unfolding representativesOf
 known-answer n c vs z e = rw (z, e)
 
@@ -77,24 +77,24 @@ domain-two : domainGenerator 2 ≡ p - 1
 unfolding domainGenerator exponentFrom
 domain-two = ap (squared 31) generator-is ∙ squared-31
 
-label-two : (cell : ℕ) → T (ltb (cell % 2) (2 ^ 64)) → representativesOf 2 2 ≡ padded (1 ∷ 7 ∷ [])
-    → labelOf 2 (representativesOf 2 2) cell ≡ fmul (getD (padded (1 ∷ 7 ∷ [])) (cell / 2) 0) (fast 64 (p - 1) (cell % 2) p)
+label-two : (cell : ℕ) → T (ltb (cell % 2) (2 ^ 64)) → representativesOf 2 2 ≡ columnWords (1 ∷ 7 ∷ [])
+    → labelOf 2 (representativesOf 2 2) cell ≡ fmul (getD (columnWords (1 ∷ 7 ∷ [])) (cell / 2) 0) (fast 64 (p - 1) (cell % 2) p)
 unfolding labelOf
 label-two cell h e = rw (e, domain-two, power (p - 1) (cell % 2) h)
 
-labels-two : representativesOf 2 2 ≡ padded (1 ∷ 7 ∷ []) → table 4 (labelOf 2 (representativesOf 2 2)) ≡ 1 ∷ (p - 1) ∷ 7 ∷ (p - 7) ∷ []
+labels-two : representativesOf 2 2 ≡ columnWords (1 ∷ 7 ∷ []) → table 4 (labelOf 2 (representativesOf 2 2)) ≡ 1 ∷ (p - 1) ∷ 7 ∷ (p - 7) ∷ []
 unfolding table fast
 labels-two e = rw (label-two 0 tt e, label-two 1 tt e, label-two 2 tt e, label-two 3 tt e)
 
 pub record WorkedLabels : Type 0 where
   -- "P4 N=2, C=5: representatives 1, 7, 11, 13, 14."
   pub p4-number : representativesNumber 2 5 ≡ 0
-  pub p4 : representativesOf 2 5 ≡ padded (1 ∷ 7 ∷ 11 ∷ 13 ∷ 14 ∷ [])
+  pub p4 : representativesOf 2 5 ≡ columnWords (1 ∷ 7 ∷ 11 ∷ 13 ∷ 14 ∷ [])
   -- 8 has order 64, so 56 = 8 * 7 lies in 7's coset from N = 64 on: column 23 of 24 has 56 at N = 32, and 57 at N = 64
   pub short-number : representativesNumber 32 24 ≡ 0
-  pub short : representativesOf 32 24 ≡ padded (shared23 ++ (56 ∷ []))
+  pub short : representativesOf 32 24 ≡ columnWords (shared23 ++ (56 ∷ []))
   pub coset-number : representativesNumber 64 24 ≡ 0
-  pub coset : representativesOf 64 24 ≡ padded (shared23 ++ (57 ∷ []))
+  pub coset : representativesOf 64 24 ≡ columnWords (shared23 ++ (57 ∷ []))
   -- the labels of P8 and P9, N=2 and C=2: the columns 1, p−1 and 7, p−7
   pub labels-number : representativesNumber 2 2 ≡ 0
   pub labels : table 4 (labelOf 2 (representativesOf 2 2)) ≡ 1 ∷ (p - 1) ∷ 7 ∷ (p - 7) ∷ []

@@ -22,14 +22,14 @@ use Rattle.field.specs.Field.{p, fpow, isNonResidue}
 use Rattle.field.specs.FieldLaws.{non-residue-unit}
 use Rattle.labels.specs.declared.NonResidues.{NonResidues}
 use Rattle.labels.specs.Ranges.{mostColumns}
-use Rattle.labels.specs.Labels.{Columns, kept, firstColumn, absent, tried, searchFrom, found, padded}
+use Rattle.labels.specs.Labels.{Columns, kept, firstColumn, absent, tried, searchFrom, found, columnWords}
 
 -- the columns as the code holds them
 abbrev pub stored : Columns → NonResidues
-stored s = record { kept = length (s .values); values = padded (s .values); powers = padded (s .powers) }
+stored s = record { kept = length (s .values); values = columnWords (s .values); powers = columnWords (s .powers) }
 
 -- one more word goes where the zeros begin
-pub padded-next : (xs : List ℕ) (x : ℕ) → length xs < mostColumns → set (padded xs) (length xs) x ≡ padded (xs ++ (x ∷ []))
+pub padded-next : (xs : List ℕ) (x : ℕ) → length xs < mostColumns → set (columnWords xs) (length xs) x ≡ columnWords (xs ++ (x ∷ []))
 padded-next xs x h =
     let e : mostColumns - length xs ≡ suc (mostColumns - (length xs + 1)) = omega arith in
     rw (e, length-append) (set-append-seam xs 0 (replicate (mostColumns - (length xs + 1)) 0) x ∙ sym (append-assoc xs (x ∷ []) (replicate (mostColumns - (length xs + 1)) 0)))

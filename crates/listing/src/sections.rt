@@ -7,6 +7,7 @@ ghost use lib.Dec.{leb};
 ghost use Rattle.pieces.specs.Records.{rowSize, tableSize};
 ghost use Rattle.listing.specs.Ends.{fixedEnd, recordsEnd, listingFrom};
 ghost use Rattle.listing.specs.Places.{sectionOf};
+use selector::GATE_WORDS;
 
 // A section's words: where they begin in the listing, after their count, and how many they are.
 pub struct Part {
@@ -34,8 +35,8 @@ enum Section {
     Missing,
 }
 
-// Words of a gate: kind, degree, constants.
-const GATE_WORDS: u64 = 3;
+// Words of a gate.
+const GATE_SIZE: u64 = GATE_WORDS as u64;
 
 // Words of the parameters: N, C, A, S, V, mode, W, share flag.
 const PARAMETER_WORDS: usize = 8;
@@ -134,7 +135,7 @@ pub(crate) fn sections_from(words: &[u64], at: usize) -> Listing
     if parameters.len != PARAMETER_WORDS {
         return Listing::Refused(20);
     }
-    let Section::Found(gates) = fixed_section(words, parameters.start + parameters.len, GATE_WORDS)
+    let Section::Found(gates) = fixed_section(words, parameters.start + parameters.len, GATE_SIZE)
     else {
         return Listing::Refused(20);
     };

@@ -19,7 +19,8 @@ use Rattle.pieces.specs.Rows.{rowFault, rowsFault, rowLine, rowLines}
 use Rattle.pieces.specs.Cells.{placeholder, indexOf, cellFault, cellsFault}
 use Rattle.pieces.specs.Tables.{Stack, rowsIn, stackNext, tableFault, tablesFault, entries, tableEntries, tableLines, sumRows}
 use Rattle.pieces.specs.WriteLaws.{put-length, put-other, put-at, below-rows, Reads, lines-length, lines-reads, lines-other}
-use Rattle.pieces.specs.RecordLaws.{Each, fault-each, Whole, read-append}
+use Rattle.base.specs.Each.{Each}
+use Rattle.pieces.specs.RecordLaws.{fault-each, Whole, read-append}
 use Rattle.pieces.specs.CellLaws.{cell-named}
 use Rattle.pieces.specs.FaultLaws.{row-cut, row-fine, table-cut, table-fine}
 

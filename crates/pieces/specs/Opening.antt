@@ -7,6 +7,7 @@ use lib.ListN.{length, drop, replicate}
 use lib.Dec.{leb}
 use mathlib.Core.Bool.{Bool}
 use Rattle.base.specs.Pick.{pick, both}
+use Rattle.base.specs.Limits.{mostGates}
 use Rattle.pieces.specs.Setting.{Setting, State, Store, Cols, cols, Held, constantRoom, copyRoom, scratchRoom, tableRoom, neverOpened, isOpened}
 use Rattle.pieces.specs.Writing.{cleared}
 
@@ -29,18 +30,17 @@ abbrev pub openStore : Setting → Store → Store
 openStore x b =
     record { constants = cleared (constantRoom x) (b .constants); cells = openCells x (b .cells); tables = cleared (tableRoom x) (b .tables) }
 
--- the marks of 128 gates, "Gates: 1..128."
-abbrev pub mostGates : ℕ
-mostGates = 128
+-- a state before its first piece, in a phase: a mark for each of 128 gates, none made
+abbrev pub startState : ℕ → State
+startState phase =
+    record { rowCount = 0; wordCount = 0; cellCount = 0; tableCount = 0; stacked = 0; used = replicate mostGates 0; phase = phase }
 
 abbrev pub openState : State
-openState =
-    record { rowCount = 0; wordCount = 0; cellCount = 0; tableCount = 0; stacked = 0; used = replicate mostGates 0; phase = isOpened }
+openState = startState isOpened
 
 -- "a plan, path or state of zeros, which counts as never opened"
 abbrev pub zeroState : State
-zeroState =
-    record { rowCount = 0; wordCount = 0; cellCount = 0; tableCount = 0; stacked = 0; used = replicate mostGates 0; phase = neverOpened }
+zeroState = startState neverOpened
 
 -- what an accepted opening holds: "A fresh opening is an accepted one with the plan that planning gave, whatever its buffers held."
 abbrev pub fresh : Setting → Store → Held

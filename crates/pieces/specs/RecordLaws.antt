@@ -1,6 +1,6 @@
 -- Laws of records and of the first faulty one.
 --
--- Main definitions: `Each`, `Whole`, `Sized`, `Rest` (the records that a loop has still to read).
+-- Main definitions: `Whole`, `Sized`, `Rest` (the records that a loop has still to read).
 -- Main statements: `fault-head`, `fault-each` (what no fault says), `read-append` (pieces put end to end), and for loops `first-turn`, `count-turn`, `first-found`, `first-done`,
 -- `rest-begin`, `rest-whole`, `rest-cut`, `rest-done`, `rest-front`; `below-all`, `below-each`, `below-not`.
 use mathlib.Core.Path.{_≡_, refl, sym, ap, _∙_}
@@ -17,23 +17,10 @@ use lib.Seq.{length-take-le, drop-append-le, take-append-le, drop-drop, getD-dro
 use lib.Dec.{ltb, leb}
 use borrow.Author.Tests.{lt-ltb, le-leb, lt-leb, ltb-true, eq-eqb, ne-eqb}
 use Rattle.base.specs.Pick.{pick, both-true}
+use Rattle.base.specs.Each.{Each}
 use Rattle.base.specs.Drops.{drop-none, drop-one, drop-two, drop-last}
 use Rattle.pieces.specs.Records.{Read, whole, cut, readBy, firstFault, allBelow}
 use Rattle.pieces.specs.Front.{front}
-
--- ---- each of a list
-abbrev pub Each : {X : Type 0} → (X → Type 0) → List X → Type 0
-Each P [] = Unit {0}
-Each P (x ∷ xs) = P x × Each P xs
-
-pub each-append : {X : Type 0} (P : X → Type 0) (xs ys : List X) → Each P xs → Each P ys → Each P (xs ++ ys)
-each-append P [] ys a b = b
-each-append P (x ∷ xs) ys (p, a) b = (p, each-append P xs ys a b)
-
-pub each-at : {X : Type 0} (P : X → Type 0) (xs : List X) (d : X) → Each P xs → (i : ℕ) → i < length xs → P (getD xs i d)
-each-at P [] d a i h = absurd (not-suc-le-zero h)
-each-at P (x ∷ xs) d (p, a) zero h = p
-each-at P (x ∷ xs) d (p, a) (suc i) h = each-at P xs d a i (le-of-suc-le-suc h)
 
 -- what no fault says of each
 module _ {S X : Type 0} (fault : S → X → ℕ) (next : S → X → S) where

@@ -5,7 +5,7 @@ ghost use mathlib.Core.List.{List, _++_};
 ghost use Prim.Native.Nat.{ℕ, _*_, _<_, _≤_};
 ghost use lib.ListN.{length};
 ghost use Rattle.bytes.specs.Text.{sink, put, field, fields};
-ghost use Rattle.columns.specs.Digits.{Spelled};
+ghost use Rattle.base.specs.Digits.{Spelled};
 ghost use Rattle.tree.specs.Plan.{planFault, planPath};
 ghost use Rattle.report.specs.Report.{newline, planLine, digit, digitsOf, stepsField, pathLine, pathLines, columnLines, idsLine};
 use bytes::text::put_bytes;

@@ -44,10 +44,10 @@ unfoldable pub alike : ℕ → List ℕ
 alike zero = []
 alike (suc k) = 0 ∷ 2 ∷ 0 ∷ alike k
 
-abbrev pub nodesOf : Option Tree → ℕ
+abbrev nodesOf : Option Tree → ℕ
 nodesOf none = 0
 nodesOf (some t) = size t
 
-pub sixty-four : (nodesOf (planTree 0 (alike 64) 64) ≡ 127) × (firstTarget (treeWithin 0 (alike 64) (placedGates (alike 64) 64) 0) (targets - 1) 1 ≡ none) × (planTree 0 (alike 65) 65 ≡ none)
+sixty-four : (nodesOf (planTree 0 (alike 64) 64) ≡ 127) × (firstTarget (treeWithin 0 (alike 64) (placedGates (alike 64) 64) 0) (targets - 1) 1 ≡ none) × (planTree 0 (alike 65) 65 ≡ none)
 unfolding alike constantsOf degreeAt placedFrom comesBefore inserted sorted greatest exponentFrom offer offerAll grown mayStand firstBound firstTarget treeWithin searchTree planTree
 sixty-four = (refl, refl, refl)

@@ -11,8 +11,9 @@ use mathlib.Core.Option.{Option, none, some}
 use mathlib.Core.Path.{_≡_}
 use Rattle.base.specs.Pick.{pick}
 use Rattle.selector.specs.GrowthLaws.{In, Once}
-use Rattle.selector.specs.Nodes.{Holds, gateAt, leftAt, put, rightAt}
-use Rattle.selector.specs.Tree.{Tree, depth, size}
+use Rattle.selector.specs.Nodes.{gateAt, leftAt, put, rightAt}
+use Rattle.selector.specs.Inner.{depth, Holds}
+use Rattle.selector.specs.Tree.{Tree, size}
 
 -- the leaf at node i becomes a fork of two new nodes, n and n + 1: its gate left, g right
 unfoldable pub splitFlat : List ℕ → ℕ → ℕ → ℕ → List ℕ

@@ -16,7 +16,8 @@ use Rattle.base.specs.Pick.{pick}
 use Rattle.selector.specs.Flat.{Fine, Placed, offerFork, offerLeaf, offerNode, orElse, placed, splitFlat}
 use Rattle.selector.specs.GrowthLaws.{In, Once}
 use Rattle.selector.specs.NodeLaws.{length-put, put-gate, put-gate-other, put-left, put-left-other, put-right, put-right-other}
-use Rattle.selector.specs.Nodes.{Holds, gateAt, leftAt, put, rightAt}
+use Rattle.selector.specs.Inner.{Holds}
+use Rattle.selector.specs.Nodes.{gateAt, leftAt, put, rightAt}
 use Rattle.selector.specs.Tree.{Tree, fork, leaf, offer, orFork}
 
 -- an offer leaves the nodes and the count, or adds two nodes

@@ -13,7 +13,8 @@ use native.Mathlib.Decide.{decLt}
 use native.Mathlib.Omega.{arith}
 use Rattle.base.specs.Pick.{pick}
 use Rattle.selector.specs.SortLaws.{times}
-use Rattle.selector.specs.Tree.{Tree, andThen, depth, fork, grown, leaf, offer, offerAll, orFork, size, standing}
+use Rattle.selector.specs.Inner.{depth}
+use Rattle.selector.specs.Tree.{Tree, andThen, fork, grown, leaf, offer, offerAll, orFork, size, standing}
 
 -- a gate stands at a leaf
 abbrev pub In : ℕ → Tree → Type 0

@@ -7,6 +7,7 @@ pub mod Nodes
 pub mod Refusals
 pub mod MadeUp
 pub mod Examples
+pub mod Inner
 pub mod SortLaws
 pub mod RecordLaws
 pub mod GrowthLaws
@@ -14,7 +15,6 @@ pub mod SearchLaws
 pub mod NodeLaws
 pub mod MadeUpLaws
 pub mod PathLaws
-pub mod Products
 pub mod Flat
 pub mod FlatLaws
 pub mod RunLaws

@@ -9,7 +9,7 @@ use mathlib.Core.Option.{Option, none, some}
 use Rattle.base.specs.Pick.{pick}
 use Rattle.selector.specs.Gates.{kindOf}
 use Rattle.selector.specs.Nodes.{leftAt, rightAt, treeAt}
-use Rattle.selector.specs.Search.{factor, treeD, treeK}
+use Rattle.selector.specs.Search.{factorOf, treeD, treeK}
 use Rattle.selector.specs.Tree.{Tree, fork, leaf, standing}
 
 -- "a child not after its parent or past the nodes": node i is a leaf, which has no child words, or both children come after it and within the n nodes
@@ -51,7 +51,7 @@ justOnce gs m t = pick (allListed m t) (asWanted m gs m (λ (g : ℕ). standing 
 
 -- d, k and f are the degree and constants found and the factor of that degree
 unfoldable pub numbersAre : ℕ → ℕ → ℕ → ℕ → ℕ → Bool
-numbersAre top most d k f = pick (eqb d top) (pick (eqb k most) (eqb f (factor top)) false) false
+numbersAre top most d k f = pick (eqb d top) (pick (eqb k most) (eqb f (factorOf top)) false) false
 
 -- "or D, K or F not the tree's"
 unfoldable pub numbersFit : ℕ → List ℕ → ℕ → ℕ → ℕ → Tree → Bool

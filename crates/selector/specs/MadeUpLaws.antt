@@ -1,6 +1,6 @@
 -- What a plan's nodes that pass the test are known to have, and that planning's own nodes pass it.
 --
--- Main definition: `Sturdy`. Main statements: `sturdy`, `own-passes`, `links`.
+-- Main definition: `Sturdy`. Main statements: `sturdy`, `own-passes`, `links`, `tree-constants` (K is small), `unwanted-bare` (a dropped gate has no constants).
 use Prim.Native.Nat.{_*_, _+_, _-_, _<_, _≤_, suc, zero, ℕ}
 use borrow.Author.Tests.{eq-eqb, eqb-false, eqb-true, le-leb, leb-true, lt-ltb, ltb-true, ne-eqb}
 use lib.Dec.{eqb, leb, ltb}
@@ -14,16 +14,17 @@ use native.Mathlib.Decide.{decLt, ℕ-discrete}
 use native.Mathlib.Omega.{arith}
 use Rattle.base.specs.Exponent.{exponent, exponent-least}
 use Rattle.base.specs.Pick.{both, both-true, pick, pick-yes}
-use Rattle.selector.specs.Gates.{kindOf, placedGates}
+use Rattle.selector.specs.Gates.{constantsOf, constantsWord, degreeOf, kindOf, placedGates}
 use Rattle.selector.specs.MadeUp.{allListed, asWanted, justOnce, linkedAt, linkedFrom, mostLevels, mostNodes, nodesFit, numbersAre, numbersFit, treeFits, wanted}
 use Rattle.selector.specs.NodeLaws.{Agrees, left-agrees, mid, mid-room, own-tree, put-left, put-right, right-agrees, root-left, root-right, self-agrees, size-some, tree-shallow}
 use Rattle.selector.specs.Nodes.{laid, leftAt, nodeWords, rightAt, treeAt}
-use Rattle.selector.specs.RecordLaws.{top-constants}
-use Rattle.selector.specs.Refusals.{Sound}
-use Rattle.selector.specs.Search.{planTree, searchTree, treeD, treeF, treeK}
+use Rattle.selector.specs.RecordLaws.{constants-small, marker-bare, records-each, top-constants}
+use Rattle.selector.specs.Refusals.{recordNumber, recordsNumber}
+use Rattle.selector.specs.Search.{constantsOver, planTree, searchTree, treeD, treeF, treeK}
 use Rattle.selector.specs.SearchLaws.{Searched, search-facts}
 use Rattle.selector.specs.SortLaws.{leaf-other, leaf-self, length-placed, times, times-inside, times-outside}
-use Rattle.selector.specs.Tree.{Tree, depth, fork, leaf, size, standing}
+use Rattle.selector.specs.Inner.{depth, Sound}
+use Rattle.selector.specs.Tree.{Tree, fork, leaf, size, standing}
 use Rattle.selector.specs.Walk.{Links}
 use borrow.Fn.PlainCycle.{is}
 
@@ -80,7 +81,7 @@ leaf-linked : (ms : List ℕ) (n k : ℕ) → leftAt ms k ≡ 0 → rightAt ms k
 unfolding linkedAt
 leaf-linked ms n k e f = rw (eq-eqb (leftAt ms k) 0 e, eq-eqb (rightAt ms k) 0 f)
 
-pub laid-linked : (t : Tree) (i n : ℕ) (ns ms : List ℕ) → (i + size t) * 3 ≤ length ns → i + size t ≤ n → Agrees t i ns ms
+laid-linked : (t : Tree) (i n : ℕ) (ns ms : List ℕ) → (i + size t) * 3 ≤ length ns → i + size t ≤ n → Agrees t i ns ms
     → (k : ℕ) → i ≤ k → k < i + size t → linkedAt ms n k ≡ true
 unfolding laid
 laid-linked (leaf g) i n ns ms room h e k a b =
@@ -243,3 +244,37 @@ module _ (x : ℕ) (gs : List ℕ) (m : ℕ) (ns : List ℕ) (n d k f : ℕ) whe
       let b = and-right (leb n mostNodes) _ a in
       sturdy-by (treeAt mostLevels ns 0) refl (ltb-true 0 n (and-left (ltb 0 n) _ e)) (leb-true n mostNodes (and-left (leb n mostNodes) _ a))
       (links ns n (and-left (linkedFrom n ns n 0) _ b)) (and-right (linkedFrom n ns n 0) _ b)
+
+-- constants plus depth, where every leaf is a listed gate
+pub tree-constants : (gs : List ℕ) (m x : ℕ) → Sound gs m x → (t : Tree) (d : ℕ) → allListed m t ≡ true → constantsOver x gs d t ≤ 16 + d + depth t
+unfolding constantsOver allListed
+tree-constants gs m x s (leaf g) d e = omega (arith, constants-small gs m x s g (ltb-true g m e))
+tree-constants gs m x s (fork l r) d e =
+    let b = both-true (allListed m l) (allListed m r) e in
+    omega (arith, tree-constants gs m x s l (d + 1) (b .0), tree-constants gs m x s r (d + 1) (b .1))
+
+-- how often a gate is wanted: once or not at all, and a gate that is not wanted is of kind 2
+pub wanted-few : (gs : List ℕ) (m g : ℕ) → wanted gs m g ≤ 1
+unfolding wanted
+wanted-few gs m g = by (eqb m 1) (eqb (kindOf gs g) 2)
+  where
+    by : (s t : Bool) → pick s 1 (pick t 0 1) ≤ 1
+    by true t = omega arith
+    by false true = omega arith
+    by false false = omega arith
+
+unwanted-kind : (gs : List ℕ) (m g : ℕ) → wanted gs m g ≡ 0 → kindOf gs g ≡ 2
+unfolding wanted
+unwanted-kind gs m g e = by (eqb m 1) (eqb (kindOf gs g) 2) refl e
+  where
+    by : (s t : Bool) → eqb (kindOf gs g) 2 ≡ t → _≡_ {A = ℕ} (pick s 1 (pick t 0 1)) 0 → kindOf gs g ≡ 2
+    by true t k z = absurd (omega arith)
+    by false true k z = eqb-true (kindOf gs g) 2 k
+    by false false k z = absurd (omega arith)
+
+pub unwanted-bare : (x : ℕ) (gs : List ℕ) (m g : ℕ) → recordsNumber m gs 0 ≡ 0 → g < m → wanted gs m g ≡ 0 → constantsOf x gs g ≡ 0
+unfolding constantsOf
+unwanted-bare x gs m g e h w =
+    let k = unwanted-kind gs m g w in
+    let z = subst (λ (y : ℕ). recordNumber y (degreeOf gs g) (constantsWord gs g) ≡ 0) k (records-each gs m 0 e g (omega arith) (omega arith)) in
+    rw (ne-eqb (kindOf gs g) 3 (omega arith)) (marker-bare (degreeOf gs g) (constantsWord gs g) z)

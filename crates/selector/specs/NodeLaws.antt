@@ -1,6 +1,6 @@
 -- Node words: what a written node changes, and that the words of a tree in preorder hold the tree.
 --
--- Main statements: `put-left`, `put-left-other` and the like, `laid-length`, `laid-holds`, `own-holds`, `decoded`, `own-tree` (the tree is read back), `tree-shallow`.
+-- Main statements: `put-left`, `put-left-other` and the like, `laid-length`, `own-holds`, `decoded`, `own-tree` (the tree is read back), `tree-shallow`.
 use Prim.Native.Nat.{_*_, _+_, _-_, _<_, _≤_, suc, zero, ℕ}
 use borrow.Author.Tests.{eq-eqb, ne-eqb}
 use lib.Dec.{eqb}
@@ -12,8 +12,9 @@ use mathlib.Core.Option.{Option, none, some}
 use mathlib.Core.Path.{_∙_, _≡_, ap, refl, subst}
 use native.Mathlib.Omega.{arith}
 use Rattle.base.specs.Pick.{pick}
-use Rattle.selector.specs.Nodes.{Holds, bothSides, gateAt, laid, leftAt, put, rightAt, treeAt}
-use Rattle.selector.specs.Tree.{Tree, depth, fork, leaf, size}
+use Rattle.selector.specs.Nodes.{bothSides, gateAt, laid, leftAt, put, rightAt, treeAt}
+use Rattle.selector.specs.Inner.{depth, Holds}
+use Rattle.selector.specs.Tree.{Tree, fork, leaf, size}
 
 module _ (ns : List ℕ) (i l r g : ℕ) where
   pub length-put : length (put ns i l r g) ≡ length ns
@@ -119,7 +120,7 @@ module _ (l r : Tree) (i : ℕ) (ns ms : List ℕ) (room : (i + size (fork l r))
   pub mid-room : (i + 1 + size l + size r) * 3 ≤ length mid
   mid-room = omega (arith, long, length-put (laid l (i + 1) ns) i (i + 1) (i + 1 + size l) 0)
 
-pub laid-holds : (t : Tree) (i n : ℕ) (ns ms : List ℕ) → (i + size t) * 3 ≤ length ns → i + size t ≤ n → Agrees t i ns ms → Holds ms n i t
+laid-holds : (t : Tree) (i n : ℕ) (ns ms : List ℕ) → (i + size t) * 3 ≤ length ns → i + size t ≤ n → Agrees t i ns ms → Holds ms n i t
 unfolding laid
 laid-holds (leaf g) i n ns ms room h e =
     let s = e i (omega arith) (omega arith) in

@@ -1,13 +1,12 @@
 -- 01, 'Box tree: nodes in a flat array, children after parents'. A node is three words: left, right, gate; a left word 0 is a leaf, since node 0 is
 -- nobody's child; a leaf's right word is 0 too. The plan's node words are its tree in preorder over zeros.
 --
--- Main definitions: `laid`, `treeAt`, `Holds`.
-use Prim.Native.Nat.{_*_, _+_, _<_, suc, zero, ℕ}
+-- Main definitions: `laid`, `treeAt`.
+use Prim.Native.Nat.{_*_, _+_, suc, zero, ℕ}
 use lib.Dec.{eqb}
 use lib.ListN.{getD, replicate, set}
 use mathlib.Core.List.{List}
 use mathlib.Core.Option.{Option, none, some}
-use mathlib.Core.Path.{_≡_}
 use Rattle.base.specs.Pick.{pick}
 use Rattle.selector.specs.Tree.{Tree, fork, leaf, size}
 
@@ -43,8 +42,3 @@ unfoldable pub treeAt : ℕ → List ℕ → ℕ → Option Tree
 treeAt zero ns i = none
 treeAt (suc f) ns i =
     pick (eqb (leftAt ns i) 0) (some (leaf (gateAt ns i))) (bothSides (treeAt f ns (leftAt ns i)) (treeAt f ns (rightAt ns i)))
-
--- the first n of the nodes hold the tree at node i
-abbrev pub Holds : List ℕ → ℕ → ℕ → Tree → Type 0
-Holds ns n i (leaf g) = (i < n) × (leftAt ns i ≡ 0) × (gateAt ns i ≡ g)
-Holds ns n i (fork l r) = (i < n) × (leftAt ns i ≡ 0 → ⊥) × Holds ns n (leftAt ns i) l × Holds ns n (rightAt ns i) r

@@ -1,6 +1,6 @@
 -- What accepted gate records give: bounds of degrees and constants, of M and G.
 --
--- Main statements: `records-sound`, `constants-small`, `degree-small`, `top-constants`, `top-degree`.
+-- Main statements: `gates-sound`, `records-each`, `marker-bare`, `constants-small`, `degree-small`, `top-constants`, `top-degree`.
 use Prim.Native.Nat.{_*_, _+_, _<_, _≤_, max, suc, zero, ℕ}
 use borrow.Author.Tests.{eqb-true, leb-true}
 use lib.Dec.{eqb, leb}
@@ -12,8 +12,10 @@ use native.Mathlib.Decide.{ℕ-discrete}
 use native.Mathlib.Omega.{arith}
 use Rattle.base.specs.Firsts.{first-zero}
 use Rattle.base.specs.Pick.{both, both-true, pick, pick-zero}
-use Rattle.selector.specs.Gates.{Listed, constantsOf, constantsWord, degreeAt, degreeOf, gateWords, greatest, kindOf, placedGates, topConstants, topDegree}
-use Rattle.selector.specs.Refusals.{Sound, extraOf, gateCount, gatesNumber, mostGates, recordNumber, recordsNumber, wordsFit}
+use Rattle.selector.specs.Inner.{Listed, Sound}
+use Rattle.selector.specs.Gates.{constantsOf, constantsWord, degreeAt, degreeOf, gateWords, greatest, kindOf, placedGates, topConstants, topDegree}
+use Rattle.base.specs.Limits.{mostGates}
+use Rattle.selector.specs.Refusals.{extraOf, gateCount, gatesNumber, recordNumber, recordsNumber, wordsFit}
 use Rattle.selector.specs.SortLaws.{listed-placed}
 
 gate-small : (k d c : ℕ) → recordNumber k d c ≡ 0 → (d ≤ 64) × (c ≤ 16)
@@ -45,7 +47,7 @@ records-small gs (suc k) g e h a b =
     by (no q) z more = more (omega arith) (omega arith)
 
 -- records that 4 lets pass are sound
-pub records-sound : (gs : List ℕ) (m x : ℕ) → recordsNumber m gs 0 ≡ 0 → m * gateWords ≤ length gs → m ≤ mostGates → x ≤ 1 → Sound gs m x
+records-sound : (gs : List ℕ) (m x : ℕ) → recordsNumber m gs 0 ≡ 0 → m * gateWords ≤ length gs → m ≤ mostGates → x ≤ 1 → Sound gs m x
 records-sound gs m x e l few extra =
     record {
       all = l;
@@ -55,7 +57,7 @@ records-sound gs m x e l few extra =
       extra = extra;
     }
 
-pub greatest-le : (f : ℕ → ℕ) (b m : ℕ) (l : List ℕ) → ((g : ℕ) → g < m → f g ≤ b) → Listed m l → greatest f l ≤ b
+greatest-le : (f : ℕ → ℕ) (b m : ℕ) (l : List ℕ) → ((g : ℕ) → g < m → f g ≤ b) → Listed m l → greatest f l ≤ b
 unfolding greatest
 greatest-le f b m [] h k = omega arith
 greatest-le f b m (g ∷ l) h (k, r) = omega (arith, h g k, greatest-le f b m l h r)
@@ -102,3 +104,24 @@ extra-small mode = by (eqb mode 2)
 pub gates-sound : (mode allowed : ℕ) (gs : List ℕ) (m : ℕ) → gatesNumber mode allowed gs m ≡ 0 → m * gateWords ≤ length gs → m ≤ mostGates → Sound gs m (extraOf mode)
 unfolding gatesNumber
 gates-sound mode allowed gs m e l few = records-sound gs m (extraOf mode) (first-zero (recordsNumber m gs 0) _ e .0) l few (extra-small mode)
+
+-- each record of an accepted list is accepted by itself
+pub records-each : (gs : List ℕ) (k g : ℕ) → recordsNumber k gs g ≡ 0 → (h : ℕ) → g ≤ h → h < g + k → recordNumber (kindOf gs h) (degreeOf gs h) (constantsWord gs h) ≡ 0
+unfolding recordsNumber
+records-each gs zero g e h a b = absurd (omega arith)
+records-each gs (suc k) g e h a b =
+    let p = pick-zero (eqb (recordNumber (kindOf gs g) (degreeOf gs g) (constantsWord gs g)) 0) (recordsNumber k gs (g + 1)) 4 (omega arith) e in
+    by (ℕ-discrete g h) (eqb-true (recordNumber (kindOf gs g) (degreeOf gs g) (constantsWord gs g)) 0 (p .0)) (records-each gs k (g + 1) (p .1) h)
+  where
+    by : Dec (g ≡ h) → recordNumber (kindOf gs g) (degreeOf gs g) (constantsWord gs g) ≡ 0
+        → (g + 1 ≤ h → h < g + 1 + k → recordNumber (kindOf gs h) (degreeOf gs h) (constantsWord gs h) ≡ 0) → recordNumber (kindOf gs h) (degreeOf gs h) (constantsWord gs h) ≡ 0
+    by (yes q) z more = subst (λ (y : ℕ). recordNumber (kindOf gs y) (degreeOf gs y) (constantsWord gs y) ≡ 0) q z
+    by (no q) z more = more (omega arith) (omega arith)
+
+-- a gate of kind 2 has no constants
+pub marker-bare : (d c : ℕ) → recordNumber 2 d c ≡ 0 → c ≡ 0
+unfolding recordNumber
+marker-bare d c e =
+    let v = pick-zero (eqb d 0) (pick (eqb c 0) 0 4) 4 (omega arith) e in
+    let w = pick-zero (eqb c 0) 0 4 (omega arith) (v .1) in
+    eqb-true c 0 (w .0)

@@ -1,18 +1,15 @@
 -- 01, 'When a call is turned down', planning's refusals 3 to 7, which are about the gate words.
 --
 -- Main definitions: `gatesNumber` (4 to 7, for m records), `wordsFit` (3), `Sound` (the bounds that accepted records keep).
-use Prim.Native.Nat.{_*_, _+_, _-_, _/_, _<_, _≤_, suc, zero, ℕ}
+use Prim.Native.Nat.{_*_, _+_, _-_, _/_, suc, zero, ℕ}
 use lib.Dec.{eqb, leb}
 use lib.ListN.{length}
 use mathlib.Core.Bool.{Bool, false, true}
 use mathlib.Core.List.{List}
 use Rattle.base.specs.Firsts.{orNumber}
+use Rattle.base.specs.Limits.{mostGates}
 use Rattle.base.specs.Pick.{both, pick}
 use Rattle.selector.specs.Gates.{constantsOf, constantsWord, degreeOf, gateWords, kindOf, placedGates, topConstants}
-
--- "Gates: 1..128."
-abbrev pub mostGates : ℕ
-mostGates = 128
 
 -- the number of gates that a list of words holds
 abbrev pub gateCount : List ℕ → ℕ
@@ -70,11 +67,3 @@ unfoldable pub gatesNumber : ℕ → ℕ → List ℕ → ℕ → ℕ
 gatesNumber mode allowed gs m =
     orNumber (recordsNumber m gs 0)
     (orNumber (lookupNumber mode gs m) (orNumber (kindsNumber gs m) (constantsNumber (extraOf mode) allowed gs m)))
-
--- the bounds that accepted records keep, where the lookup gate has x constants
-pub record Sound (gs : List ℕ) (m x : ℕ) : Type 0 where
-  pub all : m * gateWords ≤ length gs
-  pub few : m ≤ mostGates
-  pub degrees : (g : ℕ) → g < m → degreeOf gs g ≤ 64
-  pub constants : (g : ℕ) → g < m → constantsWord gs g ≤ 16
-  pub extra : x ≤ 1

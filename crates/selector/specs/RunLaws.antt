@@ -14,11 +14,11 @@ use native.Mathlib.Omega.{arith}
 use Rattle.base.specs.Pick.{pick}
 use Rattle.selector.specs.Flat.{Placed, Stands, growFlat, growFrom, levels, offerNode, placed, splitFlat}
 use Rattle.selector.specs.FlatLaws.{Grown, Match, implements, length-split, spot}
-use Rattle.selector.specs.Gates.{Among, Distinct, Listed}
+use Rattle.selector.specs.Inner.{Among, Distinct, Listed, depth, Holds}
 use Rattle.selector.specs.GrowthLaws.{In, Kept, Once, Within, offer-kept, offer-within}
 use Rattle.selector.specs.NodeLaws.{length-put, put-gate, put-left}
-use Rattle.selector.specs.Nodes.{Holds, put}
-use Rattle.selector.specs.Tree.{Tree, andThen, depth, fork, grown, leaf, offer, offerAll, size}
+use Rattle.selector.specs.Nodes.{put}
+use Rattle.selector.specs.Tree.{Tree, andThen, fork, grown, leaf, offer, offerAll, size}
 
 module _ (m c : ℕ) (deep : c ≤ levels) (fit : ℕ → ℕ → Bool) (full : (g d : ℕ) → c < d → fit g d ≡ false) where
   -- what holds before the gates of a list are offered

@@ -32,8 +32,8 @@ firstTarget f zero t = none
 firstTarget f (suc k) t = orTree (f t) (firstTarget f k (t * 2))
 
 -- "the smallest power of two not below the greater of 1 and D−1"; t is that of M
-abbrev pub factor : ℕ → ℕ
-factor d = 2 ^ exponent (max 1 (d - 1))
+abbrev pub factorOf : ℕ → ℕ
+factorOf d = 2 ^ exponent (max 1 (d - 1))
 
 -- "Targets: t, 2t, 4t, 8t"
 abbrev pub targets : ℕ
@@ -55,7 +55,7 @@ treeWithin x gs order c t = firstBound (λ (b : ℕ). grown (mayStand x gs t b) 
 unfoldable pub searchTree : ℕ → List ℕ → ℕ → Option Tree
 searchTree x gs m =
     firstTarget (treeWithin x gs (sorted x gs (placedGates gs m)) (topConstants x gs (placedGates gs m))) targets
-    (factor (topDegree gs (placedGates gs m)))
+    (factorOf (topDegree gs (placedGates gs m)))
 
 -- "A list of one gate is a lone leaf."
 unfoldable pub planTree : ℕ → List ℕ → ℕ → Option Tree
@@ -78,4 +78,4 @@ abbrev pub treeK : ℕ → List ℕ → Tree → ℕ
 treeK x gs t = constantsOver x gs 0 t
 
 abbrev pub treeF : List ℕ → Tree → ℕ
-treeF gs t = factor (treeD gs t)
+treeF gs t = factorOf (treeD gs t)

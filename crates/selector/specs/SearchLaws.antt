@@ -15,9 +15,10 @@ use Rattle.base.specs.Exponent.{exponent}
 use Rattle.base.specs.Pick.{both-true, pick}
 use Rattle.selector.specs.Gates.{constantsOf, degreeAt, placedGates, sorted, topConstants, topDegree}
 use Rattle.selector.specs.GrowthLaws.{AllFit, grown-facts}
-use Rattle.selector.specs.Search.{bounds, constantsOver, degreeOver, extraLevels, factor, firstBound, firstTarget, mayStand, orTree, searchTree, targets, treeK, treeWithin}
+use Rattle.selector.specs.Search.{bounds, constantsOver, degreeOver, extraLevels, factorOf, firstBound, firstTarget, mayStand, orTree, searchTree, targets, treeK, treeWithin}
 use Rattle.selector.specs.SortLaws.{length-sorted, times, times-sorted}
-use Rattle.selector.specs.Tree.{Tree, depth, fork, grown, leaf, size, standing}
+use Rattle.selector.specs.Inner.{depth}
+use Rattle.selector.specs.Tree.{Tree, fork, grown, leaf, size, standing}
 
 -- nothing stands deeper than the bound
 pub nothing-deeper : (x : ℕ) (gs : List ℕ) (t c g d : ℕ) → c < d → mayStand x gs t c g d ≡ false
@@ -59,7 +60,7 @@ module _ (x : ℕ) (gs : List ℕ) (t c : ℕ) where
   within-both (leaf g) d h = may-both g d h
   within-both (fork l r) d (h, k) = let a = within-both l (d + 1) h in let b = within-both r (d + 1) k in (omega arith, omega arith)
 
--- what the search's tree has: its leaves are the placed gates, D is within one of the targets, K within one of the bounds
+-- what the search's tree has: its leaves are the placed gates, and its depth and K are within the greatest bound
 pub record Searched (x : ℕ) (gs : List ℕ) (m : ℕ) (t : Tree) : Type 0 where
   pub counts : (h : ℕ) → standing h t ≡ times h (placedGates gs m)
   pub sized : size t + 1 ≡ length (placedGates gs m) * 2
@@ -72,7 +73,7 @@ module _ (gs : List ℕ) (m x : ℕ) where
   search-facts t e =
       let o = sorted x gs (placedGates gs m) in
       let n = length-sorted x gs (placedGates gs m) in
-      let a = which-target (treeWithin x gs o (topConstants x gs (placedGates gs m))) targets (factor (topDegree gs (placedGates gs m))) t e in
+      let a = which-target (treeWithin x gs o (topConstants x gs (placedGates gs m))) targets (factorOf (topDegree gs (placedGates gs m))) t e in
       let b = which-bound (λ (k : ℕ). grown (mayStand x gs (a .0) k) o) (bounds o) (topConstants x gs (placedGates gs m)) t (a .1) in
       let f = grown-facts (b .0) (mayStand x gs (a .0) (b .0)) (nothing-deeper x gs (a .0) (b .0)) o t (b .2) in
       let q : bounds o ≡ bounds (placedGates gs m) = ap (λ (z : ℕ). exponent z + (extraLevels + 1)) n in

@@ -1,8 +1,8 @@
 -- 01, 'Gates and tree': the tree of gates (the Rust's TreeNode) and the offer of a gate to it (its try_add_gate).
 -- `fit g d` says whether gate g may stand at depth d.
 --
--- Main definitions: `Tree`, `offer`, `grown`, `depth`, `size`, `standing`.
-use Prim.Native.Nat.{_+_, max, suc, ℕ}
+-- Main definitions: `Tree`, `offer`, `grown`, `size`, `standing`.
+use Prim.Native.Nat.{_+_, suc, ℕ}
 use lib.Dec.{eqb}
 use mathlib.Core.Bool.{Bool}
 use mathlib.Core.List.{List, [], _∷_}
@@ -37,11 +37,6 @@ offerAll fit (g ∷ l) t = andThen (offer fit g 0 t) (offerAll fit l)
 unfoldable pub grown : (ℕ → ℕ → Bool) → List ℕ → Option Tree
 grown fit [] = none
 grown fit (g ∷ l) = pick (fit g 0) (offerAll fit l (leaf g)) none
-
--- the depth of the deepest leaf
-abbrev pub depth : Tree → ℕ
-depth (leaf g) = 0
-depth (fork l r) = suc (max (depth l) (depth r))
 
 -- the number of nodes
 abbrev pub size : Tree → ℕ

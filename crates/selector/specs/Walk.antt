@@ -13,7 +13,7 @@ use Rattle.base.specs.Pick.{pick}
 use Rattle.selector.specs.Gates.{constantsOf, degreeAt}
 use Rattle.selector.specs.MadeUp.{asWanted, numbersAre}
 use Rattle.selector.specs.Nodes.{leftAt, rightAt}
-use Rattle.selector.specs.Refusals.{mostGates}
+use Rattle.base.specs.Limits.{mostGates}
 use Rattle.selector.specs.Tree.{Tree, fork, leaf}
 
 -- marks, one a gate; whether nothing was wrong so far; the greatest degree at depth and constants plus depth so far

@@ -14,11 +14,12 @@ use mathlib.Core.Path.{_∙_, _≡_, ap, refl, subst, sym}
 use native.Mathlib.Decide.{decLt, ℕ-discrete}
 use native.Mathlib.Omega.{arith}
 use Rattle.base.specs.Pick.{both, pick, pick-no, pick-yes}
-use Rattle.selector.specs.Gates.{constantsOf, degreeAt, kindOf}
+use Rattle.selector.specs.Gates.{constantsOf, degreeAt}
+use Rattle.selector.specs.MadeUpLaws.{wanted-few}
 use Rattle.selector.specs.MadeUp.{allListed, asWanted, justOnce, linkedFrom, mostLevels, mostNodes, nodesFit, numbersAre, numbersFit, treeFits, wanted}
 use Rattle.selector.specs.NodeLaws.{at-fork, at-leaf}
 use Rattle.selector.specs.Nodes.{bothSides, gateAt, leftAt, rightAt, treeAt}
-use Rattle.selector.specs.Refusals.{mostGates}
+use Rattle.base.specs.Limits.{mostGates}
 use Rattle.selector.specs.Search.{constantsOver, degreeOver, treeD, treeK}
 use Rattle.selector.specs.Tree.{Tree, fork, leaf, standing}
 use Rattle.selector.specs.Walk.{Visited, Walk, asked, lost, meet, meetAll, met, nothing}
@@ -199,15 +200,6 @@ module _ (gs : List ℕ) (m : ℕ) where
   wanted-same a b zero g e = refl
   wanted-same a b (suc k) g e = rw (e g (omega arith), wanted-same a b k (g + 1) (λ h l. e h (omega arith)))
 
-  wanted-few : (g : ℕ) → wanted gs m g ≤ 1
-  unfolding wanted
-  wanted-few g = by (eqb m 1) (eqb (kindOf gs g) 2)
-    where
-      by : (s t : Bool) → pick s 1 (pick t 0 1) ≤ 1
-      by true t = omega arith
-      by false true = omega arith
-      by false false = omega arith
-
   wanted-not : (a : ℕ → ℕ) (k i g : ℕ) → i ≤ g → g < i + k → 2 ≤ a g → asWanted k gs m a i ≡ false
   unfolding asWanted
   wanted-not a zero i g h l e = absurd (omega arith)
@@ -217,7 +209,7 @@ module _ (gs : List ℕ) (m : ℕ) where
           → pick (eqb (a i) (wanted gs m i)) (asWanted k gs m a (i + 1)) false ≡ false
       by (yes q) more =
           let n : a i ≡ a g = ap a q in
-          pick-no (eqb (a i) (wanted gs m i)) (asWanted k gs m a (i + 1)) false (ne-eqb (a i) (wanted gs m i) (λ z. absurd (omega (arith, wanted-few i))))
+          pick-no (eqb (a i) (wanted gs m i)) (asWanted k gs m a (i + 1)) false (ne-eqb (a i) (wanted gs m i) (λ z. absurd (omega (arith, wanted-few gs m i))))
       by (no q) more = and-not (eqb (a i) (wanted gs m i)) (asWanted k gs m a (i + 1)) (more (omega arith) (omega arith) e)
 
   module _ (x : ℕ) (few : m ≤ mostGates) where

@@ -11,12 +11,12 @@ use native.Mathlib.Omega.{arith}
 use Rattle.selector.specs.Flat.{Stands, Stood}
 use Rattle.selector.specs.Gates.{constantsOf, degreeAt}
 use Rattle.selector.specs.GrowthLaws.{In}
-use Rattle.selector.specs.Nodes.{Holds, gateAt, laid, leftAt, put, rightAt}
+use Rattle.selector.specs.Nodes.{gateAt, laid, leftAt, put, rightAt}
 use Rattle.selector.specs.RecordLaws.{degree-small}
-use Rattle.selector.specs.Refusals.{Sound}
 use Rattle.selector.specs.RunLaws.{whole}
-use Rattle.selector.specs.Search.{constantsOver, degreeOver, factor, treeD, treeK}
-use Rattle.selector.specs.Tree.{Tree, depth, fork, leaf, size}
+use Rattle.selector.specs.Search.{constantsOver, degreeOver, factorOf, treeD, treeK}
+use Rattle.selector.specs.Inner.{depth, Holds, Sound}
+use Rattle.selector.specs.Tree.{Tree, fork, leaf, size}
 use Rattle.tree.specs.Layout.{Done, Room, walked}
 use Rattle.tree.specs.Shapes.{shapeOf}
 use Rattle.tree.specs.declared.nodes.Shape.{Shape}
@@ -159,7 +159,7 @@ module _ (x : ℕ) (gs : List ℕ) (m : ℕ) (q : Option Tree) (ns : List ℕ) (
       let d = degree-over-small gs m x s (w .tree) 0 (w .stood .listed) in
       omega (arith, laid-degree, w .shallow, d)
 
-  pub laid-shape : (f : ℕ) → f ≡ factor (r .degree)
+  pub laid-shape : (f : ℕ) → f ≡ factorOf (r .degree)
       → _≡_ {A = Shape} (record { nodes = out; count = r .next; degree = r .degree; constants = r .constants; factor = f }) (shapeOf x gs q)
   laid-shape f e =
       let a : r .next ≡ size (w .tree) = ap (λ (z : Stats). z .next) (done .sums) ∙ omega arith in

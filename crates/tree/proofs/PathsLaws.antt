@@ -20,7 +20,7 @@ use Rattle.selector.specs.MadeUp.{allListed}
 use Rattle.selector.specs.NodeLaws.{at-fork, at-leaf}
 use Rattle.selector.specs.Nodes.{bothSides, gateAt, leftAt, rightAt, treeAt}
 use Rattle.selector.specs.Paths.{bitsOf, pathTo, turned}
-use Rattle.selector.specs.Refusals.{mostGates}
+use Rattle.base.specs.Limits.{mostGates}
 use Rattle.selector.specs.Tree.{Tree, fork, leaf}
 use Rattle.tree.proofs.NodesLaws.{found}
 use Rattle.tree.specs.Placements.{PathWords, pathWords, placed, spelled}

@@ -1,23 +1,29 @@
--- The methods of a plan: what the path's answer tells of the plan, the words of a path that was found, and the words of all paths.
-use Prim.Native.Nat.{_<_, _≤_, ℕ}
+-- The methods of a plan: what the path's answer tells of the plan, the words of a path that was found, and the words of all gates.
+use Prim.Native.Nat.{_*_, _+_, _<_, _≤_, suc, zero, ℕ}
 use borrow.Author.Tests.{eq-eqb, le-ltb, lt-ltb, ne-eqb}
 use lib.ListN.{getD, getD-replicate, length, length-replicate, replicate}
-use lib.Seq.{ext-getD}
+use lib.Dec.{ltb}
+use lib.Seq.{ext-getD, getD-take}
 use mathlib.Core.List.{List}
 use mathlib.Core.Logic.{_≢_}
 use mathlib.Core.Option.{Option, none, some}
 use mathlib.Core.Path.{_∙_, _≡_, ap, refl, sym}
 use native.Mathlib.Decide.{ℕ-discrete, decLt}
 use native.Mathlib.Omega.{arith}
+use Rattle.base.specs.Fills.{Filled}
+use Rattle.base.specs.Pick.{pick}
 use Rattle.base.specs.Tables.{table, table-at, table-length}
-use Rattle.selector.specs.MadeUp.{mostLevels}
+use Rattle.selector.specs.Gates.{constantsOf, gateWords}
+use Rattle.selector.specs.MadeUp.{mostLevels, wanted}
+use Rattle.selector.specs.MadeUpLaws.{wanted-few}
+use Rattle.parameters.specs.Lookup.{flagOf}
 use Rattle.selector.specs.Nodes.{treeAt}
 use Rattle.selector.specs.Paths.{bitsOf, orEmpty, pathOf, pathTo}
-use Rattle.selector.specs.Refusals.{mostGates}
+use Rattle.base.specs.Limits.{mostGates}
 use Rattle.selector.specs.Tree.{Tree}
 use Rattle.tree.proofs.PathsLaws.{Long, Read, placed-long, placed-read, unlisted-path}
 use Rattle.tree.specs.Placements.{PathWords, pathWords, placed, spelled}
-use Rattle.tree.specs.Plan.{pathAnswer, pathsAnswer, planFault, planPath}
+use Rattle.tree.specs.Plan.{forListed, gatesGiven, pathAnswer, planFault, planPath, planPlaced}
 use Rattle.tree.specs.PlanLaws.{Faultless, fault-none}
 use Rattle.tree.specs.declared.paths.Placement.{Placement}
 use Rattle.tree.specs.declared.plan.Path.{Path}
@@ -56,23 +62,8 @@ table-by : (f : ℕ → ℕ) (n : ℕ) (new : List ℕ) → length new ≡ n →
 table-by f n new long at =
     ext-getD 0 new (table n f) (long ∙ sym (table-length n f)) (λ i l. at i (omega (arith, l, long)) ∙ sym (table-at n f i (omega (arith, l, long))))
 
--- all paths, from the words of each
-paths-by : (p : Plan) (n : ℕ) (v : PathWords) → n ≡ planFault p → Long v
-    → ((g : ℕ) → g < mostGates → (getD (v .bits) g 0 ≡ pathAnswer p g .bits) × (getD (v .lengths) g 0 ≡ pathAnswer p g .length))
-    → record { number = n; bits = v .bits; lengths = v .lengths } ≡ pathsAnswer p
-unfolding pathsAnswer
-paths-by p n v e long at =
-    rw (
-      e,
-      table-by (λ (g : ℕ). pathAnswer p g .bits) mostGates (v .bits) (long .bits) (λ g h. at g h .0),
-      table-by (λ (g : ℕ). pathAnswer p g .length) mostGates (v .lengths) (long .lengths) (λ g h. at g h .1),
-    )
-
 zeros-long : Long zeroWords
 zeros-long = let e = length-replicate {A = ℕ} mostGates 0 in record { bits = e; lengths = e }
-
-pub paths-made-up : (p : Plan) (n : ℕ) → n ≡ planFault p → n ≢ 0 → record { number = n; bits = zeroWords .bits; lengths = zeroWords .lengths } ≡ pathsAnswer p
-paths-made-up p n e z = paths-by p n zeroWords e zeros-long (λ g h. rw (path-made-up p g (λ y. z (e ∙ y))) (getD-replicate mostGates g 0 0 h, getD-replicate mostGates g 0 0 h))
 
 -- the words of a gate after a walk over zeros: those of its path, none being empty
 read-zeros : (g : ℕ) (q : Option (List ℕ)) (v : PathWords) → g < mostGates → Read g q 0 1 0 zeroWords v
@@ -81,12 +72,32 @@ unfolding bitsOf
 read-zeros g (some p) v h r = (r .0 ∙ omega arith, r .1 ∙ omega arith)
 read-zeros g none v h r = (r .0 ∙ getD-replicate mostGates g 0 0 h, r .1 ∙ getD-replicate mostGates g 0 0 h)
 
+-- words that are a function's values at the listed gates, and 0 behind
+listed-by : (p : Plan) (f : ℕ → ℕ) (new : List ℕ) → length new ≡ mostGates → ((g : ℕ) → g < p .«gate_count» → g < mostGates → getD new g 0 ≡ f g)
+    → ((g : ℕ) → p .«gate_count» ≤ g → g < mostGates → getD new g 0 ≡ 0) → new ≡ forListed p f
+listed-by p f new long in-list behind = table-by (λ (g : ℕ). pick (ltb g n) (f g) 0) mostGates new long (λ g h. at g h (decLt g n))
+  where
+    n : ℕ
+    n = p .«gate_count»
+
+    at : (g : ℕ) → g < mostGates → Dec (g < n) → getD new g 0 ≡ pick (ltb g n) (f g) 0
+    at g h (yes d) = rw (lt-ltb g n d) (in-list g d h)
+    at g h (no d) = rw (le-ltb g n (omega arith)) (behind g (omega arith) h)
+
+-- a loop over zeros that filled them in
+pub listed-filled : (p : Plan) (f h : ℕ → ℕ) (new : List ℕ) → ((g : ℕ) → g < p .«gate_count» → h g ≡ f g) → Filled h 0 (p .«gate_count») (replicate mostGates 0) new → new ≡ forListed p f
+listed-filled p f h new same fill =
+    listed-by p f new (fill .same-length ∙ length-replicate {A = ℕ} mostGates 0) (λ g d l. fill .inside g (omega arith) d ∙ same g d)
+    (λ g d l. fill .beyond g d ∙ getD-replicate mostGates g 0 0 l)
+
 -- all paths, where the walk from the root wrote them over zeros
 pub paths-placed : (p : Plan) (v : PathWords) → planFault p ≡ 0 → ((t : Tree) → treeAt mostLevels (p .nodes) 0 ≡ some t → v ≡ placed t 0 1 0 zeroWords)
-    → record { number = 0; bits = v .bits; lengths = v .lengths } ≡ pathsAnswer p
-unfolding pathAnswer bitsOf
-paths-placed p v f walked =
-    paths-by p 0 v (sym f) (rw is (placed-long t 0 1 0 zeroWords zeros-long)) (λ g h. at g (decLt g (p .«gate_count»)) (words g h))
+    → (v .bits ≡ forListed p (λ (g : ℕ). bitsOf (planPath p g))) × (v .lengths ≡ forListed p (λ (g : ℕ). length (planPath p g)))
+unfolding bitsOf
+paths-placed p v f walked = (
+  listed-by p (λ (g : ℕ). bitsOf (planPath p g)) (v .bits) (long .bits) (λ g d l. rw (w .nodes .is) (words g l .0)) (λ g d l. rw (none-there g d) at (words g l .0)),
+  listed-by p (λ (g : ℕ). length (planPath p g)) (v .lengths) (long .lengths) (λ g d l. rw (w .nodes .is) (words g l .1)) (λ g d l. rw (none-there g d) at (words g l .1)),
+)
   where
     w : Faultless p
     w = fault-none p f
@@ -97,14 +108,34 @@ paths-placed p v f walked =
     is : v ≡ placed t 0 1 0 zeroWords
     is = walked t (w .nodes .is)
 
+    long : Long v
+    long = rw is (placed-long t 0 1 0 zeroWords zeros-long)
+
     words : (g : ℕ) → g < mostGates → (getD (v .bits) g 0 ≡ bitsOf (pathOf g t)) × (getD (v .lengths) g 0 ≡ length (pathOf g t))
     words g h = read-zeros g (pathTo g t) v h (rw is (placed-read t 0 1 0 zeroWords g h zeros-long))
 
-    at : (g : ℕ) → Dec (g < p .«gate_count») → (getD (v .bits) g 0 ≡ bitsOf (pathOf g t)) × (getD (v .lengths) g 0 ≡ length (pathOf g t))
-        → (getD (v .bits) g 0 ≡ pathAnswer p g .bits) × (getD (v .lengths) g 0 ≡ pathAnswer p g .length)
-    at g (yes d) r = rw (eq-eqb (planFault p) 0 f, lt-ltb g (p .«gate_count») d, w .nodes .is) r
-    at g (no d) r =
-        rw (eq-eqb (planFault p) 0 f, le-ltb g (p .«gate_count») (omega arith)) (rw (unlisted-path (p .«gate_count») t g (w .nodes .listed) (omega arith)) at r)
+    none-there : (g : ℕ) → p .«gate_count» ≤ g → pathTo g t ≡ none
+    none-there g h = unlisted-path (p .«gate_count») t g (w .nodes .listed) h
+
+-- what the code reads off a plan's array, of listed gates
+pub own-given : (q : Plan) (x g : ℕ) → g < q .«gate_count» → constantsOf x (q .gates) g ≡ constantsOf x (gatesGiven q) g
+unfolding constantsOf
+own-given q x g h =
+    rw (
+      getD-take (q .«gate_count» * gateWords) (q .gates) (g * gateWords) 0 (omega arith),
+      getD-take (q .«gate_count» * gateWords) (q .gates) (g * gateWords + 2) 0 (omega arith),
+    )
+
+few-flag : (n : ℕ) → n ≤ 1 → n ≡ flagOf (ltb 0 n)
+few-flag zero h = refl
+few-flag (suc zero) h = refl
+few-flag (suc (suc n)) h = absurd (omega arith)
+
+pub placed-given : (q : Plan) (g : ℕ) → g < q .«gate_count» → wanted (q .gates) (q .«gate_count») g ≡ flagOf (planPlaced q g)
+unfolding wanted
+placed-given q g h =
+    rw (← getD-take (q .«gate_count» * gateWords) (q .gates) (g * gateWords) 0 (omega arith))
+    (few-flag (wanted (gatesGiven q) (q .«gate_count») g) (wanted-few (gatesGiven q) (q .«gate_count») g))
 
 -- gate 0's path in a plan without a fault
 pub record Fine0 (p : Plan) (r : Path) : Type 0 where

@@ -19,11 +19,12 @@ use Rattle.base.specs.Exponent.{exponent}
 use Rattle.base.specs.Pick.{pick}
 use Rattle.selector.specs.Flat.{Fine, Placed, Stands, Stood, growFlat, growFrom, levels, offerNode, placed, splitFlat}
 use Rattle.selector.specs.FlatLaws.{Spot, fine-split, length-split, spot}
-use Rattle.selector.specs.Gates.{Distinct, Listed, constantsOf, degreeAt, degreeOf, kindOf, placedGates, sorted, topConstants, topDegree}
+use Rattle.selector.specs.Inner.{Distinct, Listed}
+use Rattle.selector.specs.Gates.{constantsOf, degreeAt, degreeOf, kindOf, placedGates, sorted, topConstants, topDegree}
 use Rattle.selector.specs.NodeLaws.{length-put, put-gate, put-left, put-right}
 use Rattle.selector.specs.Nodes.{gateAt, leftAt, put, rightAt}
 use Rattle.selector.specs.RunLaws.{flat-grows}
-use Rattle.selector.specs.Search.{extraLevels, factor, firstBound, firstTarget, mayStand, orTree, planTree, searchTree, targets, treeWithin}
+use Rattle.selector.specs.Search.{extraLevels, factorOf, firstBound, firstTarget, mayStand, orTree, planTree, searchTree, targets, treeWithin}
 use Rattle.selector.specs.SearchLaws.{nothing-deeper}
 use Rattle.selector.specs.SortLaws.{distinct-placed, distinct-sorted, listed-placed, listed-sorted}
 use Rattle.selector.specs.Tree.{Tree, grown, leaf}
@@ -256,7 +257,7 @@ module _ (gs : List ℕ) (m x : ℕ) where
   abbrev pub within : ℕ → Option Tree
   within = treeWithin x gs inOrder (topConstants x gs (placedGates gs m))
 
-  pub search-begin : (t : ℕ) → t ≡ factor (topDegree gs (placedGates gs m)) → searchTree x gs m ≡ firstTarget within targets t
+  pub search-begin : (t : ℕ) → t ≡ factorOf (topDegree gs (placedGates gs m)) → searchTree x gs m ≡ firstTarget within targets t
   unfolding searchTree
   search-begin t e = rw e
 

@@ -5,9 +5,10 @@ use Prim.Native.Nat.{_+_, _<_, _≤_, max, ℕ}
 use mathlib.Core.List.{List}
 use mathlib.Core.Path.{_≡_}
 use Rattle.selector.specs.GrowthLaws.{In}
-use Rattle.selector.specs.Nodes.{Holds, laid}
+use Rattle.selector.specs.Nodes.{laid}
 use Rattle.selector.specs.Search.{constantsOver, degreeOver}
-use Rattle.selector.specs.Tree.{Tree, depth, size}
+use Rattle.selector.specs.Inner.{depth, Holds}
+use Rattle.selector.specs.Tree.{Tree, size}
 use Rattle.tree.specs.declared.nodes.Stats.{Stats}
 
 -- what a walk over a tree at depth d adds to what was counted before

@@ -2,8 +2,8 @@
 pub mod Shapes
 pub mod Plan
 pub mod PlanLaws
+pub mod SoundLaws
 pub mod Offers
 pub mod Layout
 pub mod Walks
 pub mod Placements
-pub mod PathsWorked

@@ -9,7 +9,7 @@ use mathlib.Core.List.{List}
 use mathlib.Core.Option.{Option, none, some}
 use Rattle.base.specs.Pick.{pick}
 use Rattle.selector.specs.Paths.{bitsOf}
-use Rattle.selector.specs.Refusals.{mostGates}
+use Rattle.base.specs.Limits.{mostGates}
 use Rattle.selector.specs.Tree.{Tree, fork, leaf}
 use Rattle.tree.specs.declared.paths.Placement.{Placement}
 

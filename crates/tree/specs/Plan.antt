@@ -1,31 +1,34 @@
 -- 01, 'When a call is turned down' and 'Gates and tree': what planning, the test for a made-up plan, paths and the table-id index answer, for any arguments.
 --
--- Main definitions: `planNumber`, `planned`, `partsFault`, `planFault`, `pathAnswer`, `pathsAnswer`, `tableIdAnswer`.
+-- Main definitions: `planNumber`, `planned`, `partsFault`, `planFault`, `pathAnswer`, `gateRowsAnswer`, `tableIdAnswer`.
 use Prim.Native.Nat.{_*_, ℕ}
 use lib.Dec.{eqb, leb, ltb}
 use lib.ListN.{drop, length, replicate, take}
+use mathlib.Core.Bool.{Bool}
 use mathlib.Core.List.{List, [], _++_}
 use mathlib.Core.Option.{Option, none, some}
 use Rattle.base.specs.Firsts.{orNumber}
 use Rattle.base.specs.Pick.{pick}
 use Rattle.base.specs.Tables.{table}
-use Rattle.selector.specs.Gates.{gateWords}
-use Rattle.selector.specs.MadeUp.{mostLevels, nodesFit}
+use Rattle.selector.specs.Gates.{constantsOf, gateWords}
+use Rattle.selector.specs.MadeUp.{mostLevels, nodesFit, wanted}
 use Rattle.selector.specs.Nodes.{treeAt}
 use Rattle.selector.specs.Paths.{bitsOf, pathOf}
-use Rattle.selector.specs.Refusals.{extraOf, gateCount, gatesNumber, mostGates, wordsFit}
-use Rattle.selector.specs.Search.{factor, planTree}
+use Rattle.base.specs.Limits.{mostGates}
+use Rattle.selector.specs.Refusals.{extraOf, gateCount, gatesNumber, wordsFit}
+use Rattle.selector.specs.Search.{planTree}
 use Rattle.selector.specs.Tree.{Tree}
 use Rattle.parameters.specs.Lookup.{flagOf, modeOf, shareOf, widthOf}
 use Rattle.parameters.specs.Parameters.{lookupOf, parametersNumber}
 use Rattle.tree.specs.Shapes.{shapeOf}
 use Rattle.parameters.specs.declared.lookup.LookupParameters.the-variants.{NoLookup}
+use Rattle.tree.specs.declared.gate_rows.GateRows.{GateRows}
 use Rattle.tree.specs.declared.nodes.Shape.{Shape}
 use Rattle.parameters.specs.declared.parameters.Parameters.{Parameters}
 use Rattle.tree.specs.declared.plan.Path.{Path}
-use Rattle.tree.specs.declared.plan.Paths.{Paths}
 use Rattle.tree.specs.declared.plan.Plan.{Plan}
 use Rattle.tree.specs.declared.plan.TableId.{TableId}
+use Rattle.tree.specs.declared.plan.Told.{Told}
 use Rattle.tree.specs.declared.planning.Planned.{Planned}
 
 -- "Refused planning, path or opening hands back a plan, path or state of zeros"
@@ -65,8 +68,8 @@ unfoldable pub planNumber : Parameters → List ℕ → ℕ
 planNumber ps gs = orNumber (wordsNumber ps gs) (treeNumber (treeFor ps gs))
 
 -- gate words in a plan's array; unused words are 0
-abbrev pub padded : List ℕ → List ℕ
-padded gs = gs ++ drop (length gs) (replicate 384 0)
+abbrev pub gateArray : List ℕ → List ℕ
+gateArray gs = gs ++ drop (length gs) (replicate 384 0)
 
 -- the plan of parameter words, gate words and a shape
 abbrev pub planWith : Parameters → List ℕ → Shape → Plan
@@ -78,7 +81,7 @@ planWith ps gs s =
       specialised = ps .specialised;
       variables = ps .variables;
       lookup = lookupOf ps;
-      gates = padded gs;
+      gates = gateArray gs;
       «gate_count» = gateCount gs;
       nodes = s .nodes;
       «node_count» = s .count;
@@ -93,9 +96,6 @@ planned ps gs = pick (eqb (planNumber ps gs) 0) (planWith ps gs (shapeOf (extraO
 
 abbrev pub planAnswer : Parameters → List ℕ → Planned
 planAnswer ps gs = record { number = planNumber ps gs; plan = planned ps gs }
-
-abbrev pub refusedPlan : ℕ → Planned
-refusedPlan n = record { number = n; plan = zeroPlan }
 
 -- the parameter words of a plan
 abbrev pub parametersOf : Plan → Parameters
@@ -119,27 +119,25 @@ gatesGiven p = take (p .«gate_count» * gateWords) (p .gates)
 abbrev pub planExtra : Plan → ℕ
 planExtra p = extraOf (modeOf (p .lookup))
 
--- the test for 19 over a plan's parts, in the same order; gate words that are not there are a fault too, which a plan's own array of 384 never has
-unfoldable pub partsFault : Parameters → List ℕ → ℕ → List ℕ → ℕ → ℕ → ℕ → ℕ → ℕ
-partsFault ps gs n nodes m d k f =
+-- what a plan says of its tree
+abbrev pub toldOf : Plan → Told
+toldOf p = record { degree = p .degree; constants = p .constants; factor = p .factor }
+
+-- "19 is given for a made-up plan: parameters or gates that 1 to 7 turn down, a child not after its parent or past the nodes, a leaf below depth 31, leaves
+-- other than each placed gate just once, or D, K or F not the tree's." Over a plan's parts; gate words that are not there are a fault too, which a plan's own
+-- array of 384 never has.
+unfoldable pub partsFault : Parameters → List ℕ → ℕ → List ℕ → ℕ → Told → ℕ
+partsFault ps gs n nodes m w =
     pick (eqb (parametersNumber ps) 0)
     (pick (leb 1 n)
     (pick (leb n mostGates)
     (pick (leb (n * gateWords) (length gs))
     (pick (eqb (gatesNumber (ps .mode) (ps .allowed) (take (n * gateWords) gs) n) 0)
-    (pick (nodesFit (extraOf (ps .mode)) (take (n * gateWords) gs) n nodes m d k f) 0 19)
+    (pick (nodesFit (extraOf (ps .mode)) (take (n * gateWords) gs) n nodes m (w .degree) (w .constants) (w .factor)) 0 19)
     19) 19) 19) 19) 19
 
--- "19 is given for a made-up plan: parameters or gates that 1 to 7 turn down, a child not after its parent or past the nodes, a leaf below depth 31, leaves
--- other than each placed gate just once, or D, K or F not the tree's."
 unfoldable pub planFault : Plan → ℕ
-planFault p =
-    pick (eqb (parametersNumber (parametersOf p)) 0)
-    (pick (leb 1 (p .«gate_count»))
-    (pick (leb (p .«gate_count») mostGates)
-    (pick (eqb (gatesNumber (modeOf (p .lookup)) (p .allowed) (gatesGiven p) (p .«gate_count»)) 0)
-    (pick (nodesFit (planExtra p) (gatesGiven p) (p .«gate_count») (p .nodes) (p .«node_count») (p .degree) (p .constants) (p .factor)) 0 19)
-    19) 19) 19) 19
+planFault p = partsFault (parametersOf p) (p .gates) (p .«gate_count») (p .nodes) (p .«node_count») (toldOf p)
 
 -- the path of a gate in a plan's tree; a gate at no leaf, a dropped one, has the empty path
 abbrev pub pathIn : Option Tree → ℕ → List ℕ
@@ -158,9 +156,44 @@ pathAnswer p g =
     (record { number = 12; bits = 0; length = 0 }))
     (record { number = 19; bits = 0; length = 0 })
 
--- the path of each gate, as asking for one gives it: 0 and 0 for a made-up plan and for a gate that is not listed
-unfoldable pub pathsAnswer : Plan → Paths
-pathsAnswer p = record { number = planFault p; bits = table mostGates (λ (g : ℕ). pathAnswer p g .bits); lengths = table mostGates (λ (g : ℕ). pathAnswer p g .length) }
+-- a gate's own number of constants
+abbrev pub planOwn : Plan → ℕ → ℕ
+planOwn p = constantsOf (planExtra p) (gatesGiven p)
+
+-- whether a gate is placed, and so has a selector
+abbrev pub planPlaced : Plan → ℕ → Bool
+planPlaced p g = ltb 0 (wanted (gatesGiven p) (p .«gate_count») g)
+
+-- a word for each listed gate, 0 for those that are not
+abbrev pub forListed : Plan → (ℕ → ℕ) → List ℕ
+forListed p f = table mostGates (λ (g : ℕ). pick (ltb g (p .«gate_count»)) (f g) 0)
+
+-- what rows need of each gate: its path, whether it has a selector, its own number of constants
+abbrev pub gateRowsOf : Plan → GateRows
+gateRowsOf p =
+    record {
+      number = 0;
+      many = p .«gate_count»;
+      bits = forListed p (λ (g : ℕ). bitsOf (planPath p g));
+      steps = forListed p (λ (g : ℕ). length (planPath p g));
+      selected = forListed p (λ (g : ℕ). flagOf (planPlaced p g));
+      own = forListed p (planOwn p);
+    }
+
+abbrev pub noGateRows : GateRows
+noGateRows =
+    record {
+      number = 19;
+      many = 0;
+      bits = replicate mostGates 0;
+      steps = replicate mostGates 0;
+      selected = replicate mostGates 0;
+      own = replicate mostGates 0;
+    }
+
+-- 19 first
+unfoldable pub gateRowsAnswer : Plan → GateRows
+gateRowsAnswer p = pick (eqb (planFault p) 0) (gateRowsOf p) noGateRows
 
 -- "Table-id column: mode 2 the lookup path's length, mode 4 K, else none"; 19 first
 unfoldable pub tableIdAnswer : Plan → TableId

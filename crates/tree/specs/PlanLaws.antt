@@ -1,37 +1,39 @@
 -- What a plan without a fault has, and that planning's plans have none: all that the layers above need of plans.
 --
--- Main definition: `Faultless`. Main statements: `fault-none`, `parts-of`, `planned-fault`, `planned-fields`, `planned-constants`, `paths-at`.
+-- Main definition: `Faultless`. Main statements: `fault-none`, `zero-fault`, `planned-fault`, `planned-fields`, `planned-constants`.
 use Prim.Native.Nat.{_*_, _+_, _<_, _≤_, ℕ}
-use borrow.Author.Tests.{eq-eqb, eqb-true, le-leb, leb-true, lt-leb, ne-eqb}
+use borrow.Author.Tests.{eq-eqb, eqb-true, le-leb, leb-true, ne-eqb}
 use lib.Dec.{eqb, leb}
-use lib.ListN.{drop, getD, length, replicate}
+use lib.ListN.{drop, length, length-append, replicate}
 use lib.Seq.{take-append-seam}
+use mathlib.Core.Bool.{Bool, false, true}
 use mathlib.Core.List.{List}
 use mathlib.Core.Logic.{_≢_}
 use mathlib.Core.Option.{Option, none, some}
 use mathlib.Core.Path.{_∙_, _≡_, refl, sym}
-use native.Mathlib.Decide.{decLe}
 use native.Mathlib.Omega.{arith}
 use Rattle.base.specs.Firsts.{first-found, first-none, first-zero}
 use Rattle.base.specs.Pick.{pick, pick-no, pick-zero}
-use Rattle.base.specs.Tables.{table-at}
 use Rattle.selector.specs.Gates.{gateWords, placedGates, topConstants}
 use Rattle.selector.specs.MadeUp.{nodesFit}
 use Rattle.selector.specs.MadeUpLaws.{Sturdy, own-passes, sturdy}
 use Rattle.selector.specs.NodeLaws.{size-some}
 use Rattle.selector.specs.RecordLaws.{gates-sound, words-fit}
-use Rattle.selector.specs.Refusals.{Sound, extraOf, gateCount, gatesNumber, mostGates, wordsFit}
-use Rattle.selector.specs.Search.{bounds, factor, planTree, searchTree}
+use Rattle.base.specs.Limits.{mostGates}
+use Rattle.selector.specs.Inner.{Sound}
+use Rattle.selector.specs.Refusals.{extraOf, gateCount, gatesNumber, wordsFit}
+use Rattle.selector.specs.Search.{bounds, planTree, searchTree}
 use Rattle.selector.specs.SearchLaws.{search-facts}
 use Rattle.selector.specs.Tree.{Tree, leaf}
 use Rattle.parameters.specs.Lookup.{modeOf}
 use Rattle.parameters.specs.Parameters.{flagNumber, lookupOf, parametersNumber, rangeNumber}
 use Rattle.parameters.specs.ParametersLaws.{InRange, in-range, lookup-words}
-use Rattle.tree.specs.Plan.{gatesGiven, parametersOf, partsFault, pathAnswer, pathsAnswer, planAnswer, planExtra, planFault, planNumber, planWith, planned, refusedPlan, treeFor, treeNumber, wordsNumber}
+use Rattle.tree.specs.Plan.{gatesGiven, gateArray, parametersOf, partsFault, planAnswer, planExtra, planFault, planNumber, planWith, planned, treeFor, treeNumber, wordsNumber, zeroPlan}
 use Rattle.tree.specs.Shapes.{shapeOf}
 use Rattle.tree.specs.declared.nodes.Shape.{Shape}
 use Rattle.parameters.specs.declared.parameters.Parameters.{Parameters}
 use Rattle.tree.specs.declared.plan.Plan.{Plan}
+use Rattle.tree.specs.declared.planning.Planned.{Planned}
 use borrow.Fn.PlainCycle.{is}
 
 -- what a plan that passes 19 is known to have
@@ -39,37 +41,38 @@ pub record Faultless (p : Plan) : Type 0 where
   pub parameters : parametersNumber (parametersOf p) ≡ 0
   pub some-gates : 1 ≤ p .«gate_count»
   pub few-gates : p .«gate_count» ≤ mostGates
+  pub words : p .«gate_count» * gateWords ≤ length (p .gates)
   pub gates : gatesNumber (modeOf (p .lookup)) (p .allowed) (gatesGiven p) (p .«gate_count») ≡ 0
   pub nodes : Sturdy (planExtra p) (gatesGiven p) (p .«gate_count») (p .nodes) (p .«node_count») (p .degree) (p .constants) (p .factor)
 
 pub fault-none : (p : Plan) → planFault p ≡ 0 → Faultless p
-unfolding planFault
+unfolding planFault partsFault
 fault-none p e =
     let n = p .«gate_count» in
     let gs = gatesGiven p in
     let a = pick-zero (eqb (parametersNumber (parametersOf p)) 0) _ 19 (omega arith) e in
     let b = pick-zero (leb 1 n) _ 19 (omega arith) (a .1) in
     let c = pick-zero (leb n mostGates) _ 19 (omega arith) (b .1) in
-    let d = pick-zero (eqb (gatesNumber (modeOf (p .lookup)) (p .allowed) gs n) 0) _ 19 (omega arith) (c .1) in
+    let w = pick-zero (leb (n * gateWords) (length (p .gates))) _ 19 (omega arith) (c .1) in
+    let d = pick-zero (eqb (gatesNumber (modeOf (p .lookup)) (p .allowed) gs n) 0) _ 19 (omega arith) (w .1) in
     let f = pick-zero (nodesFit (planExtra p) gs n (p .nodes) (p .«node_count») (p .degree) (p .constants) (p .factor)) 0 19 (omega arith) (d .1) in
     record {
       parameters = eqb-true (parametersNumber (parametersOf p)) 0 (a .0);
       some-gates = leb-true 1 n (b .0);
       few-gates = leb-true n mostGates (c .0);
+      words = leb-true (n * gateWords) (length (p .gates)) (w .0);
       gates = eqb-true (gatesNumber (modeOf (p .lookup)) (p .allowed) gs n) 0 (d .0);
       nodes = sturdy (planExtra p) gs n (p .nodes) (p .«node_count») (p .degree) (p .constants) (p .factor) (f .0);
     }
 
--- a plan's parts have the plan's own fault: 128 gates of three words are 384, so that its array holds the words of every count that is allowed
-pub parts-of : (q : Plan) → length (q .gates) ≡ 384
-    → partsFault (parametersOf q) (q .gates) (q .«gate_count») (q .nodes) (q .«node_count») (q .degree) (q .constants) (q .factor) ≡ planFault q
-unfolding partsFault planFault
-parts-of q long = go (decLe (q .«gate_count») mostGates)
+-- a plan of zeros is a made-up plan
+pub zero-fault : planFault zeroPlan ≡ 19
+unfolding planFault partsFault
+zero-fault = by (eqb (parametersNumber (parametersOf zeroPlan)) 0)
   where
-    go : Dec (q .«gate_count» ≤ mostGates)
-        → partsFault (parametersOf q) (q .gates) (q .«gate_count») (q .nodes) (q .«node_count») (q .degree) (q .constants) (q .factor) ≡ planFault q
-    go (yes h) = rw (le-leb (q .«gate_count» * gateWords) (length (q .gates)) (omega arith))
-    go (no h) = rw (lt-leb (q .«gate_count») mostGates (omega arith))
+    by : (t : Bool) → _≡_ {A = ℕ} (pick t 19 19) 19
+    by true = refl
+    by false = refl
 
 -- what accepted parameter and gate words give
 pub record Accepted (ps : Parameters) (gs : List ℕ) : Type 0 where
@@ -80,6 +83,10 @@ pub record Accepted (ps : Parameters) (gs : List ℕ) : Type 0 where
   pub gates : gatesNumber (ps .mode) (ps .allowed) gs (gateCount gs) ≡ 0
   pub sound : Sound gs (gateCount gs) (extraOf (ps .mode))
   pub in-ranges : InRange ps
+
+-- a refusal of planning
+abbrev pub refusedPlan : ℕ → Planned
+refusedPlan n = record { number = n; plan = zeroPlan }
 
 module _ (ps : Parameters) (gs : List ℕ) where
   pub words-accepted : wordsNumber ps gs ≡ 0 → Accepted ps gs
@@ -182,7 +189,7 @@ module _ (ps : Parameters) (gs : List ℕ) where
       }
 
   faultless : (w : Accepted ps gs) (t : Tree) → treeFor ps gs ≡ some t → planFault (planWith ps gs (shapeOf (extraOf (ps .mode)) gs (some t))) ≡ 0
-  unfolding planFault
+  unfolding planFault partsFault
   faultless w t e =
       let s = shapeOf (extraOf (ps .mode)) gs (some t) in
       let l = lookup-words ps (w .in-ranges) in
@@ -193,6 +200,7 @@ module _ (ps : Parameters) (gs : List ℕ) where
         eq-eqb (parametersNumber ps) 0 (w .parameters),
         le-leb 1 (gateCount gs) (w .some-gates),
         le-leb (gateCount gs) mostGates (w .few-gates),
+        le-leb (gateCount gs * gateWords) (length (gateArray gs)) (omega (arith, w .words, length-append gs (drop (length gs) (replicate 384 0)))),
         eq-eqb (gatesNumber (ps .mode) (ps .allowed) gs (gateCount gs)) 0 (w .gates),
         own-passes gs (gateCount gs) (extraOf (ps .mode)) (w .sound) t e,
       )
@@ -210,8 +218,3 @@ module _ (ps : Parameters) (gs : List ℕ) where
       let s : searchTree (extraOf (ps .mode)) gs (gateCount gs) ≡ some (p .tree) =
       sym (pick-no (eqb (gateCount gs) 1) (some (leaf 0)) (searchTree (extraOf (ps .mode)) gs (gateCount gs)) (ne-eqb (gateCount gs) 1 n)) ∙ p .is in
       rw (p .plan) (search-facts gs (gateCount gs) (extraOf (ps .mode)) (p .tree) s .most)
-
--- all paths together are the answers for each gate
-pub paths-at : (p : Plan) (g : ℕ) → g < mostGates → (getD (pathsAnswer p .bits) g 0 ≡ pathAnswer p g .bits) × (getD (pathsAnswer p .lengths) g 0 ≡ pathAnswer p g .length)
-unfolding pathsAnswer
-paths-at p g h = (table-at mostGates (λ (k : ℕ). pathAnswer p k .bits) g h, table-at mostGates (λ (k : ℕ). pathAnswer p k .length) g h)

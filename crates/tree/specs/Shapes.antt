@@ -6,7 +6,7 @@ use lib.ListN.{replicate}
 use mathlib.Core.List.{List}
 use mathlib.Core.Option.{Option, none, some}
 use Rattle.selector.specs.Nodes.{nodeWords}
-use Rattle.selector.specs.Search.{factor, treeD, treeF, treeK}
+use Rattle.selector.specs.Search.{treeD, treeF, treeK}
 use Rattle.selector.specs.Tree.{Tree, size}
 use Rattle.tree.specs.declared.nodes.Shape.{Shape}
 

@@ -3,10 +3,8 @@ ghost use mathlib.Core.Path.{_≡_};
 ghost use Prim.Native.Nat.{ℕ, _+_, _*_, _≤_, _<_};
 ghost use lib.ListN.{length};
 ghost use Rattle.selector.specs.Gates.{gateWords, constantsOf, degreeAt, degreeOf};
-ghost use Rattle.selector.specs.Search.{factor};
-
-// "A gate is three words: kind, degree, constants."
-pub(crate) const GATE_WORDS: usize = 3;
+ghost use Rattle.selector.specs.Search.{factorOf};
+use selector::GATE_WORDS;
 
 // A gate's constants, where the lookup gate has `extra`.
 pub(crate) fn constants_of(gates: &[u64], gate: u64, extra: u64) -> u64
@@ -35,7 +33,7 @@ pub(crate) fn degree_at_depth(gates: &[u64], gate: u64, depth: u64) -> u64
 // The smallest power of two not below the greater of 1 and degree - 1.
 pub(crate) fn factor_of(degree: u64) -> u64
     requires { ⌜ degree ≤ 1024 ⌝ }
-    ensures { λ r. ⌜ (r ≡ factor degree) × (r ≤ 1024) ⌝ }
+    ensures { λ r. ⌜ (r ≡ factorOf degree) × (r ≤ 1024) ⌝ }
 {
     let mut least: u64 = 1;
     if 2 < degree {

@@ -4,15 +4,16 @@ ghost use mathlib.Core.Bool.{true};
 ghost use Prim.Native.Nat.{ℕ, _+_, _*_, _≤_, _<_};
 ghost use lib.ListN.{length, getD};
 ghost use Rattle.selector.specs.Gates.{gateWords};
-ghost use Rattle.selector.specs.Refusals.{Sound};
+ghost use Rattle.selector.specs.Inner.{Sound};
 ghost use Rattle.selector.specs.Nodes.{treeAt};
 ghost use Rattle.selector.specs.MadeUp.{linkedAt, linkedFrom, wanted, asWanted, nodesFit, numbersAre};
 ghost use Rattle.selector.specs.Walk.{meet, Visited, Links};
 ghost use Rattle.tree.specs.Walks.{walk, Most};
-use crate::gates::GATE_WORDS;
 use crate::gates::constants_of;
 use crate::gates::degree_at_depth;
 use crate::gates::factor_of;
+use crate::plan::Told;
+use selector::GATE_WORDS;
 
 // A leaf is met: a gate that is unlisted or met before ends the walk. `most` has the greatest degree at depth and the greatest constants plus depth so far.
 fn meet(
@@ -136,7 +137,7 @@ fn linked(nodes: &[u64; 765], count: usize) -> bool
 }
 
 // How often a listed gate has to stand at a leaf.
-fn wanted_of(gates: &[u64], many: usize, gate: usize) -> u64
+pub(crate) fn wanted_of(gates: &[u64], many: usize, gate: usize) -> u64
     requires { ⌜ gate * gateWords < length (now gates) ⌝ }
     ensures { λ r. ⌜ r ≡ wanted (now (gates .entry)) many gate ⌝ }
 {
@@ -165,13 +166,13 @@ fn as_wanted<'a>(gates: &'a [u64], marks: &'a [u64; 128], many: usize) -> bool
 }
 
 // Whether D, K and F are those that the walk found.
-fn numbers_fit(degree: u64, constants: u64, d: u64, k: u64, f: u64) -> bool
+fn numbers_fit(degree: u64, constants: u64, told: Told) -> bool
     requires { ⌜ degree ≤ 200 ⌝ }
-    ensures { λ r. ⌜ r ≡ numbersAre degree constants d k f ⌝ }
+    ensures { λ r. ⌜ r ≡ numbersAre degree constants (told .degree) (told .constants) (told .factor) ⌝ }
 {
-    if d == degree {
-        if k == constants {
-            return f == factor_of(d);
+    if told.degree == degree {
+        if told.constants == constants {
+            return told.factor == factor_of(told.degree);
         }
     }
     false
@@ -184,12 +185,10 @@ pub(crate) fn nodes_fit<'a>(
     many: usize,
     count: usize,
     extra: u64,
-    d: u64,
-    k: u64,
-    f: u64,
+    told: Told,
 ) -> bool
     requires { ⌜ Sound (now gates) many extra ⌝ }
-    ensures { λ r. ⌜ r ≡ nodesFit extra (now (gates .entry)) many (now (nodes .entry)) count d k f ⌝ }
+    ensures { λ r. ⌜ r ≡ nodesFit extra (now (gates .entry)) many (now (nodes .entry)) count (told .degree) (told .constants) (told .factor) ⌝ }
 {
     if count == 0 {
         return false;
@@ -214,7 +213,7 @@ pub(crate) fn nodes_fit<'a>(
         );
         if fine {
             if as_wanted(gates, &marks, many) {
-                return numbers_fit(most[0], most[1], d, k, f);
+                return numbers_fit(most[0], most[1], told);
             }
         }
     }

@@ -1,10 +1,10 @@
 // The plan's node words: the tree in preorder, with D and K.
 ghost use mathlib.Core.Path.{_≡_};
 ghost use Prim.Native.Nat.{ℕ, _+_, _≤_, _<_};
-ghost use Rattle.selector.specs.Refusals.{Sound};
-ghost use Rattle.selector.specs.Tree.{Tree, depth};
+ghost use Rattle.selector.specs.Inner.{depth, Holds, Sound};
+ghost use Rattle.selector.specs.Tree.{Tree};
 ghost use Rattle.selector.specs.Search.{planTree};
-ghost use Rattle.selector.specs.Nodes.{put, Holds};
+ghost use Rattle.selector.specs.Nodes.{put};
 ghost use Rattle.tree.specs.Shapes.{shapeOf};
 ghost use Rattle.tree.specs.Layout.{Room, Done};
 use crate::gates::constants_of;

@@ -1,8 +1,10 @@
-// Plans by value: the test for a made-up plan, which is also there for a plan's parts, paths and the table-id index.
+// Plans by value: the test for a made-up plan, which is also there for a plan's parts, paths, what rows need of the gates, and the table-id index.
 ghost use mathlib.Core.Path.{_≡_};
 ghost use Rattle.parameters.specs.Lookup.{flagOf};
-ghost use Rattle.tree.specs.Plan.{zeroPlan, parametersOf, partsFault, planFault, pathAnswer, pathsAnswer, tableIdAnswer};
-use crate::gates::GATE_WORDS;
+ghost use Rattle.tree.specs.Plan.{zeroPlan, parametersOf, toldOf, partsFault, planFault, pathAnswer, gateRowsAnswer, tableIdAnswer};
+use crate::gate_rows::GateRows;
+use crate::gate_rows::list_gates;
+use crate::gate_rows::no_gate_rows;
 use crate::made_up::nodes_fit;
 use crate::paths::all_placements;
 use crate::paths::output_placement;
@@ -11,6 +13,7 @@ use crate::refusals::gates_number;
 use crate::refusals::words_fit;
 use parameters::lookup::LookupParameters;
 use parameters::parameters::Parameters;
+use selector::GATE_WORDS;
 
 // Parameters, lookup mode, gates, and the tree in preorder, three words a node; D, K and F. Unused words are 0 in a plan that planning made.
 pub struct Plan {
@@ -29,18 +32,18 @@ pub struct Plan {
     pub factor: u64,
 }
 
+// What a plan says of its tree: D, K and F.
+pub struct Told {
+    pub degree: u64,
+    pub constants: u64,
+    pub factor: u64,
+}
+
 // A refusal number, or 0, and a path: bit i, from the least, is step i from the root.
 pub struct Path {
     pub number: u64,
     pub bits: u64,
     pub length: u64,
-}
-
-// A refusal number, or 0, and each gate's path as `Path` has it; 0 and 0 for a gate that is not listed.
-pub struct Paths {
-    pub number: u64,
-    pub bits: [u64; 128],
-    pub lengths: [u64; 128],
 }
 
 // A refusal number, or 0, and how many table-id columns there are, none or one, with its index.
@@ -70,11 +73,9 @@ pub fn parts_fault<'a>(
     gate_count: u64,
     nodes: &'a Nodes,
     node_count: u64,
-    degree: u64,
-    constants: u64,
-    factor: u64,
+    told: Told,
 ) -> u64
-    ensures { λ r. ⌜ r ≡ partsFault parameters (now (gates .entry)) «gate_count» (now (nodes .entry)) «node_count» degree constants factor ⌝ }
+    ensures { λ r. ⌜ r ≡ partsFault parameters (now (gates .entry)) «gate_count» (now (nodes .entry)) «node_count» told ⌝ }
 {
     if parameters.number() != 0 {
         return 19;
@@ -95,17 +96,7 @@ pub fn parts_fault<'a>(
         return 19;
     }
     let extra = extra_of(parameters.mode);
-    let fit = nodes_fit(
-        words,
-        nodes,
-        many,
-        node_count as usize,
-        extra,
-        degree,
-        constants,
-        factor,
-    );
-    if fit {
+    if nodes_fit(words, nodes, many, node_count as usize, extra, told) {
         return 0;
     }
     19
@@ -153,6 +144,17 @@ impl Plan {
         }
     }
 
+    // What the plan says of its tree.
+    pub fn told(self) -> Told
+        ensures { λ r. ⌜ r ≡ toldOf self ⌝ }
+    {
+        Told {
+            degree: self.degree,
+            constants: self.constants,
+            factor: self.factor,
+        }
+    }
+
     // 19 for a made-up plan, else 0.
     pub fn fault(self) -> u64
         ensures { λ r. ⌜ r ≡ planFault self ⌝ }
@@ -166,9 +168,7 @@ impl Plan {
             self.gate_count,
             &nodes,
             self.node_count,
-            self.degree,
-            self.constants,
-            self.factor,
+            self.told(),
         )
     }
 
@@ -199,36 +199,32 @@ impl Plan {
         }
     }
 
-    // The paths of all gates, as `path` gives each: one test of the plan, and one walk of its tree.
-    pub fn paths(self) -> Paths
-        ensures { λ r. ⌜ r ≡ pathsAnswer self ⌝ }
+    // What rows need of each gate: one test of the plan, and one walk of its tree.
+    pub fn gate_rows(self) -> GateRows
+        ensures { λ r. ⌜ r ≡ gateRowsAnswer self ⌝ }
     {
-        let mut bits = [0; 128];
-        let mut lengths = [0; 128];
-        let number = self.fault();
-        if number != 0 {
-            return Paths {
-                number: number,
-                bits: bits,
-                lengths: lengths,
-            };
+        if self.fault() != 0 {
+            return no_gate_rows();
         }
+        let mut bits = [0; 128];
+        let mut steps = [0; 128];
         let nodes = self.nodes;
-        all_placements(
-            &nodes,
-            self.node_count as usize,
-            0,
-            0,
-            1,
-            0,
-            32,
-            &mut bits,
-            &mut lengths,
-        );
-        Paths {
+        let count = self.node_count as usize;
+        all_placements(&nodes, count, 0, 0, 1, 0, 32, &mut bits, &mut steps);
+        let mut selected = [0; 128];
+        let mut own = [0; 128];
+        let gates = self.gates;
+        let many = self.gate_count;
+        let lookup = self.lookup;
+        let extra = extra_of(lookup.mode());
+        list_gates(&gates, many as usize, extra, &mut selected, &mut own);
+        GateRows {
             number: 0,
+            many: many,
             bits: bits,
-            lengths: lengths,
+            steps: steps,
+            selected: selected,
+            own: own,
         }
     }
 

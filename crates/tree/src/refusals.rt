@@ -4,8 +4,8 @@ ghost use Prim.Native.Nat.{ℕ, _-_, _*_, _≤_, _<_};
 ghost use lib.ListN.{length};
 ghost use Rattle.selector.specs.Gates.{gateWords, placedGates, topConstants};
 ghost use Rattle.selector.specs.Refusals.{wordsFit, recordNumber, recordsNumber, listsLookup, someKind, lookupNumber, kindsNumber, constantsNumber, extraOf, gatesNumber};
-use crate::gates::GATE_WORDS;
 use crate::gates::constants_of;
+use selector::GATE_WORDS;
 
 // Three words each for 1 to 128 gates; else the refusal is 3.
 pub(crate) fn words_fit(gates: &[u64]) -> bool

@@ -2,17 +2,17 @@
 ghost use mathlib.Core.Path.{_≡_};
 ghost use Prim.Native.Nat.{ℕ, _+_, _*_, _≤_, _<_};
 ghost use lib.ListN.{length, drop};
-ghost use Rattle.selector.specs.Gates.{gateWords, Listed, Distinct};
-ghost use Rattle.selector.specs.Refusals.{Sound};
+ghost use Rattle.selector.specs.Inner.{Listed, Distinct, Sound};
+ghost use Rattle.selector.specs.Gates.{gateWords};
 ghost use Rattle.selector.specs.Tree.{grown};
 ghost use Rattle.selector.specs.Search.{mayStand, firstBound, searchTree, planTree};
 ghost use Rattle.selector.specs.Flat.{splitFlat, offerNode, offerFork, Fine, Stands};
 ghost use Rattle.tree.specs.Offers.{fitsOffer};
-use crate::gates::GATE_WORDS;
 use crate::gates::constants_of;
 use crate::gates::factor_of;
 use crate::nodes::put_node;
 use crate::order::arrange;
+use selector::GATE_WORDS;
 
 // "Targets: t, 2t, 4t, 8t".
 const TARGETS: u64 = 4;

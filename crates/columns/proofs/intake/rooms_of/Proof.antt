@@ -5,13 +5,12 @@ use mathlib.Core.Path.{_≡_, refl, sym, ap, _∙_}
 use mathlib.Core.Logic.{⊎-elim}
 use native.Mathlib.Omega.{arith}
 use Prim.Native.Nat.{ℕ, _+_, _*_, _<_, _≤_}
-use lib.ListN.{length}
 use borrow.Author.Tests.{lt-ltb, le-ltb}
 use native.Mathlib.Nat.{mul-le-mul}
 use lib.Dec.{ltb}
 use Rattle.base.specs.Pick.{pick}
 use Rattle.parameters.specs.Lookup.{modeOf, widthOf}
-use Rattle.columns.specs.PlanLaws.{Sound, sound}
+use Rattle.tree.specs.SoundLaws.{Sound, sound}
 use borrow.Author.Needs.{needs}
 use Rattle.columns.proofs.intake.rooms_of.Statement.{statement}
 use Rattle.columns.proofs.intake.rooms_of.Tie as tie
@@ -24,7 +23,7 @@ lookup-width-requires c κs = search needs
 
 -- the plan is sound
 fine : (s : tie.Start) → Sound (s .args .plan)
-fine s = let l : length (s .args .plan .gates) ≡ 384 = search needs in sound (s .args .plan) (s .pre) (omega arith)
+fine s = sound (s .args .plan) (s .pre)
 
 small : (a n b : ℕ) → a ≤ b → n ≤ 65536 → a * n ≤ b * 65536
 small a n b h k = mul-le-mul h k

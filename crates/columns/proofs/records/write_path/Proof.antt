@@ -8,7 +8,7 @@ use native.Mathlib.Omega.{arith}
 use Prim.Native.Nat.{ℕ, _+_, _-_, _/_, _%_, _<_, _≤_}
 use Rattle.pieces.specs.Writing.{put}
 use lib.ListN.{length, set, length-set}
-use Rattle.columns.specs.Digits.{digits, digits-turn}
+use Rattle.base.specs.Digits.{digits, digits-turn}
 use Rattle.columns.proofs.records.write_path.Statement.{statement}
 use Rattle.columns.proofs.records.write_path.Tie as tie
 

@@ -6,7 +6,7 @@ use native.Mathlib.Omega.{arith}
 use Prim.Native.Nat.{ℕ, _+_, _≤_}
 use lib.ListN.{length, getD}
 use Rattle.pieces.specs.Writing.{put, padded}
-use Rattle.columns.specs.Digits.{digits, digits-many}
+use Rattle.base.specs.Digits.{digits, digits-many}
 use Rattle.columns.specs.Lines.{line-over}
 use Rattle.columns.proofs.rows.stage_line.Statement.{statement}
 use Rattle.columns.proofs.rows.stage_line.Tie as tie

@@ -4,7 +4,6 @@ use mathlib.Core.Logic.{inl, inr}
 use native.Mathlib.Omega.{arith}
 use Prim.Native.Nat.{_+_, _-_, _<_}
 use lib.ListN.{getD}
-use Rattle.columns.specs.Digits.{spelled-digits}
 use Rattle.columns.proofs.Parts.{part-is, part-length}
 use Rattle.columns.proofs.StageLoop.{Staging, staging-begin, Front, staging-front, staging-next, staging-done}
 use Rattle.columns.proofs.rows.stage_rows.Statement.{statement}
@@ -94,7 +93,7 @@ loop-again c =
     let g = getD (a .piece .now) (l .i) 0 in
     let e = part-is (a .piece .now) (l .i + 2) (getD (a .piece .now) (l .i + 1) 0) in
     staging-next (a .height) (a .bits .now) (a .steps .now) (a .piece .now) (l .stage) (l .rows) (l .i) (l .inv) (turn (c .before .before .before .before .before)) (c .before .before .before .before .before .before .loop-test .taken) _ (w .ensures .1) (s .pre .0 .0)
-    (λ path q. rw (e, spelled-digits path (getD (a .bits .now) g 0) (getD (a .steps .now) g 0) q) at (w .ensures .0))
+    (λ path q. rw (e, q .digits-are) at (w .ensures .0))
 
 returns-2 : tie.Need-returns-2 Inv-loop μ-loop
 returns-2 c =

@@ -8,7 +8,7 @@ use Prim.Native.Nat.{ℕ, _+_, _-_, _*_, _≤_}
 use lib.ListN.{length, replicate}
 use Rattle.pieces.specs.Writing.{put, padded}
 use Rattle.pieces.specs.WriteLaws.{put-append, padded-split}
-use Rattle.columns.specs.Digits.{digits, digits-many}
+use Rattle.base.specs.Digits.{digits, digits-many}
 use Rattle.columns.proofs.rows.write_blank.Statement.{statement}
 use Rattle.columns.proofs.rows.write_blank.Tie as tie
 

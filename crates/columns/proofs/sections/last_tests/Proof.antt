@@ -11,24 +11,27 @@ use Rattle.pieces.specs.Setting.{State}
 use Rattle.pieces.specs.Records.{rowsOf}
 use Rattle.pieces.specs.Finishing.{complete, allUsed}
 use Rattle.columns.specs.Intake.{settingOf}
-use Rattle.columns.specs.PlanLaws.{Sound, sound}
-use Rattle.columns.specs.SectionsLaws.{afterPieces, lastTests, last-same}
-use Rattle.columns.proofs.RowLoop.{gates-fault}
+use Rattle.tree.specs.SoundLaws.{Sound, sound}
+use Rattle.columns.specs.Sections.{afterPieces, lastTests}
+use Rattle.columns.specs.SectionsLaws.{last-same}
+use Rattle.columns.proofs.RowLoop.{GatesOf, gates-of, gates-fault}
 use Rattle.columns.proofs.sections.last_tests.Statement.{statement}
 use Rattle.columns.proofs.sections.last_tests.Tie as tie
 
 fine : (s : tie.Start) → Sound (s .args .plan)
 fine s =
-    let l : length (s .args .plan .gates) ≡ 384 = search needs in
-    sound (s .args .plan) (s .pre .0) (omega arith)
+    sound (s .args .plan) (s .pre .0)
 
 gate-rows-requires : tie.Need-gate-rows-requires
 gate-rows-requires c κs = search needs
 
+gates : (c : tie.After-gate-rows) → GatesOf (c .before .before .before .before .args .plan) (c .gate-rows .result)
+gates c = gates-of (c .before .before .before .before .args .plan) (c .gate-rows .result) (c .before .before .before .before .pre .0) (c .gate-rows .ensures)
+
 test-rows-requires : tie.Need-test-rows-requires
 test-rows-requires c κs =
     let w = fine (c .before .before .before .before .before .before .before) in
-    (omega (arith, w .few-gates, c .before .before .before .gate-rows .ensures .many-is), omega arith, w .ranges .long)
+    (omega (arith, w .few-gates, gates (c .before .before .before) .many-is), omega arith, w .ranges .long)
 
 complete-requires : tie.Need-complete-requires
 complete-requires c κs = search needs
@@ -44,7 +47,7 @@ same : (c : tie.After-test-rows) → let a = c .before .before .before .before .
 unfolding counted
 same c t =
     let a = c .before .before .before .before .before .before .before .before .args in
-    let z = c .test-rows .ensures .0 ∙ gates-fault (a .plan) (c .before .before .before .before .gate-rows .result) (c .before .before .before .before .gate-rows .ensures) (a .plan .trace) 0 (rowsOf (a .rows .now)) ∙ c .before .before .before .before .before .before .before .before .pre .1 in
+    let z = c .test-rows .ensures .0 ∙ gates-fault (a .plan) (c .before .before .before .before .gate-rows .result) (gates (c .before .before .before .before)) (a .plan .trace) 0 (rowsOf (a .rows .now)) ∙ c .before .before .before .before .before .before .before .before .pre .1 in
     let m = c .test-rows .ensures .1 z in
     last-same (settingOf (a .plan)) (a .rows .now) (a .s-words .now) (a .cells .now) t (counted c) (m .0) refl refl (m .1)
 

@@ -5,23 +5,18 @@ use mathlib.Core.Path.{_≡_, sym, _∙_}
 use mathlib.Core.Bool.{true}
 use native.Mathlib.Omega.{arith}
 use Prim.Native.Nat.{ℕ}
-use lib.ListN.{length}
 use Rattle.labels.specs.Ranges.{rangesFit}
 use Rattle.labels.specs.Labels.{searchNumber, representativesNumber}
 use Rattle.tree.specs.Plan.{planFault}
 use Rattle.pieces.specs.Opening.{roomToOpen}
 use Rattle.columns.specs.Intake.{settingOf, storeOf}
 use Rattle.columns.specs.IntakeLaws.{short-room, long-room, open-19, open-10, open-own}
-use Rattle.columns.specs.PlanLaws.{sound}
+use Rattle.tree.specs.SoundLaws.{sound}
 use Rattle.columns.proofs.sections.open_number.Statement.{statement}
 use Rattle.columns.proofs.sections.open_number.Tie as tie
 
 fault-requires : tie.Need-fault-requires
 fault-requires c κs = search needs
-
--- the plan's gate words
-long : (s : tie.Start) → length (s .args .plan .gates) ≡ 384
-long s = search needs
 
 fine : (c : tie.Else1) → planFault (c .before .before .before .before .before .before .args .plan) ≡ 0
 fine c = sym (c .before .fault .ensures) ∙ c .if1 .left
@@ -59,8 +54,7 @@ returns-3 c =
     let q = a .plan in
     let b = storeOf (a .constants .now) (a .copies .now) (a .scratch .now) (a .tables .now) in
     let r = c .before .before .room-number in
-    let l = long (c .before .before .before .before .before .before .before .before .before) in
-    let w = sound q (fine (c .before .before .before)) (omega arith) in
+    let w = sound q (fine (c .before .before .before)) in
     c .representatives .ensures .0 ∙ representatives-are (q .trace) (q .copy) (w .ranges-fit-too) ∙ sym (open-own q b (fine (c .before .before .before)) (long-room (roomToOpen (settingOf q) b) (r .result) (r .ensures) (c .before .if2 .left)))
 
 pub open-number-spec : {M : Type 1} → statement M

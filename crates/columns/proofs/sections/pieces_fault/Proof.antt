@@ -4,18 +4,16 @@ use borrow.Author.Needs.{needs}
 use mathlib.Core.Path.{_≡_, sym, _∙_}
 use native.Mathlib.Omega.{arith}
 use native.Mathlib.Nat.{mul-le-mul}
-use lib.ListN.{length}
 use lib.Dec.{ltb}
 use Rattle.base.specs.Firsts.{first-none, first-found}
-use Rattle.selector.specs.Gates.{constantsOf}
 use Rattle.parameters.specs.Lookup.{modeOf, widthOf}
-use Rattle.tree.specs.Plan.{gatesGiven, planExtra}
+use Rattle.tree.specs.Plan.{planOwn}
 use Rattle.pieces.specs.Records.{rowsOf, tablesOf}
 use Rattle.pieces.specs.Rows.{rowsFault}
 use Rattle.pieces.specs.Tables.{tablesFault}
 use Rattle.columns.specs.Stacked.{stack}
-use Rattle.columns.specs.PlanLaws.{Sound, sound}
-use Rattle.columns.proofs.RowLoop.{gates-fault}
+use Rattle.tree.specs.SoundLaws.{Sound, sound}
+use Rattle.columns.proofs.RowLoop.{GatesOf, gates-of, gates-fault}
 use Rattle.columns.proofs.sections.pieces_fault.Statement.{statement}
 use Rattle.columns.proofs.sections.pieces_fault.Tie as tie
 
@@ -24,20 +22,22 @@ gate-rows-requires c κs = search needs
 
 fine : (s : tie.Start) → Sound (s .args .plan)
 fine s =
-    let l : length (s .args .plan .gates) ≡ 384 = search needs in
-    sound (s .args .plan) (s .pre) (omega arith)
+    sound (s .args .plan) (s .pre)
+
+gates : (c : tie.After-gate-rows) → GatesOf (c .before .before .before .before .before .args .plan) (c .gate-rows .result)
+gates c = gates-of (c .before .before .before .before .before .args .plan) (c .gate-rows .result) (c .before .before .before .before .before .pre) (c .gate-rows .ensures)
 
 test-rows-requires : tie.Need-test-rows-requires
 test-rows-requires c κs =
     let w = fine (c .before .before .before .before .before .before .before .before) in
-    (omega (arith, w .few-gates, c .before .before .before .gate-rows .ensures .many-is), omega arith, w .ranges .long)
+    (omega (arith, w .few-gates, gates (c .before .before .before) .many-is), omega arith, w .ranges .long)
 
 -- the rows' number: the gates' constants are the plan's
 in-rows : (c : tie.After-test-rows) → let a = c .before .before .before .before .before .before .before .before .before .args in
-    c .test-rows .result .number ≡ rowsFault (a .plan .«gate_count») (constantsOf (planExtra (a .plan)) (gatesGiven (a .plan))) (a .plan .trace) 0 (rowsOf (a .rows .now))
+    c .test-rows .result .number ≡ rowsFault (a .plan .«gate_count») (planOwn (a .plan)) (a .plan .trace) 0 (rowsOf (a .rows .now))
 in-rows c =
     let a = c .before .before .before .before .before .before .before .before .before .args in
-    c .test-rows .ensures .0 ∙ gates-fault (a .plan) (c .before .before .before .before .gate-rows .result) (c .before .before .before .before .gate-rows .ensures) (a .plan .trace) 0 (rowsOf (a .rows .now))
+    c .test-rows .ensures .0 ∙ gates-fault (a .plan) (c .before .before .before .before .gate-rows .result) (gates (c .before .before .before .before)) (a .plan .trace) 0 (rowsOf (a .rows .now))
 
 returns : tie.Need-returns
 returns c =

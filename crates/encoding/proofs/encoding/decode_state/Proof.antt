@@ -4,7 +4,8 @@ use borrow.Author.Needs.{needs}
 use lib.Seq.{length-take-le}
 use mathlib.Core.Path.{_∙_, ap, sym}
 use native.Mathlib.Omega.{arith}
-use Rattle.columns.specs.Intake.{startOf}
+use Rattle.pieces.specs.Opening.{zeroState}
+use Rattle.columns.specs.Intake.{withState}
 use Rattle.tree.specs.declared.plan.Plan.{Plan}
 use Rattle.encoding.specs.EncodingLaws.{state-made, state-other}
 use Rattle.encoding.proofs.encoding.decode_state.Statement.{statement}
@@ -14,7 +15,7 @@ zero-requires : tie.Need-zero-requires
 zero-requires c κs = search needs
 
 returns : tie.Need-returns
-returns c = ap (λ (q : Plan). startOf q 0) (c .zero .ensures) ∙ state-other (c .before .before .before .args .words .now) (c .before .if1 .taken)
+returns c = ap (λ (q : Plan). withState q zeroState) (c .zero .ensures) ∙ state-other (c .before .before .before .args .words .now) (c .before .if1 .taken)
 
 sub-copy-words : tie.Need-sub-copy-words
 sub-copy-words c = search needs

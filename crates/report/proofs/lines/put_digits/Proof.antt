@@ -8,7 +8,7 @@ use Rattle.bytes.specs.Text.{Sink, sink, put, field, fields}
 use Rattle.bytes.specs.TextLaws.{then}
 use Prim.Native.Nat.{ℕ, suc, _+_, _-_, _*_, _/_, _%_, _<_, _≤_}
 use lib.ListN.{length, getD, take, drop}
-use Rattle.columns.specs.Digits.{digits, Spelled, spelled-digits, digits-left}
+use Rattle.base.specs.Digits.{digits, Spelled, digits-left}
 use Rattle.report.specs.Report.{digit, digitsOf}
 use Rattle.report.specs.ReportLaws.{digits-turn, digits-done}
 use Rattle.report.proofs.lines.put_digits.Statement.{statement}
@@ -27,7 +27,7 @@ loop-holds : tie.Need-loop-holds Inv-loop μ-loop
 loop-holds c =
     let a = c .before .args in
     let z : a .steps - 0 ≡ a .steps = omega arith in
-    (refl, λ path s. (rw z (spelled-digits path (a .bits) (a .steps) s), refl))
+    (refl, λ path s. (rw z (s .digits-are), refl))
 
 put-digit-requires : tie.Need-put-digit-requires Inv-loop μ-loop
 put-digit-requires c κs = search needs

@@ -1,14 +1,14 @@
 -- `report::lines::put_path` meets its contract: the bits and the length that the plan answers spell the path.
 -- Assumes nothing.
-use mathlib.Core.Path.{_≡_, refl, sym, ap, _∙_}
+use mathlib.Core.Path.{subst, sym}
 use mathlib.Core.List.{List, [], _∷_, _++_}
 use native.Mathlib.Omega.{arith}
 use Rattle.bytes.specs.Text.{Sink, sink, put, field, fields}
 use Rattle.bytes.specs.TextLaws.{then}
 use Prim.Native.Nat.{ℕ, suc, _+_, _-_, _*_, _/_, _%_, _<_, _≤_}
 use lib.ListN.{length, getD, take, drop}
-use Rattle.columns.specs.Digits.{Spelled}
-use Rattle.columns.specs.PlanLaws.{Sound, sound, path-good}
+use Rattle.base.specs.Digits.{Spelled}
+use Rattle.tree.specs.SoundLaws.{path-answers}
 use Rattle.tree.specs.Plan.{planPath}
 use Rattle.tree.specs.declared.plan.Path.{Path}
 use Rattle.report.specs.Report.{newline, pathName, stepsField}
@@ -46,16 +46,11 @@ put-bytes-requires-2 c κs = search needs
 same-length : tie.Need-same-length
 same-length c = search needs
 
--- the plan is sound
-fine : (s : tie.Start) → Sound (s .args .plan)
-fine s = let l : length (s .args .plan .gates) ≡ 384 = search needs in sound (s .args .plan) (s .pre .0) (omega arith)
-
 returns : tie.Need-returns
 returns c =
     let a = c .before .before .before .before .before .before .before .before .before .before .before .before .before .before .before .before .before .before .before .before .args in
-    let e = c .before .before .before .before .before .before .before .before .before .before .before .before .before .before .before .before .before .before .path .ensures ∙ path-good (a .plan) (a .gate) (c .before .before .before .before .before .before .before .before .before .before .before .before .before .before .before .before .before .before .before .before .pre .0) (c .before .before .before .before .before .before .before .before .before .before .before .before .before .before .before .before .before .before .before .before .pre .1) in
-    let s : Spelled (planPath (a .plan) (a .gate)) _ _ =
-    record { digits-are = fine (c .before .before .before .before .before .before .before .before .before .before .before .before .before .before .before .before .before .before .before .before) .digits (a .gate); bits-are = ap (λ (r : Path). r .bits) e; steps-are = ap (λ (r : Path). r .length) e } in
+    let p = c .before .before .before .before .before .before .before .before .before .before .before .before .before .before .before .before .before .before .before .before .pre in
+    let s = subst (λ (r : Path). Spelled (planPath (a .plan) (a .gate)) (r .bits) (r .length)) (sym (c .before .before .before .before .before .before .before .before .before .before .before .before .before .before .before .before .before .before .path .ensures)) (path-answers (a .plan) (p .0) (a .gate) (p .1)) in
     then (sink (a .out .now) (a .at)) _ _ (pathName ++ field (a .gate) ++ stepsField (planPath (a .plan) (a .gate))) (newline)
     (then (sink (a .out .now) (a .at)) _ _ (pathName ++ field (a .gate)) (stepsField (planPath (a .plan) (a .gate)))
     (then (sink (a .out .now) (a .at)) _ _ (pathName) (field (a .gate))

@@ -9,7 +9,7 @@ use native.Mathlib.Omega.{arith}
 use Prim.Native.Nat.{ℕ, _+_, _*_, _<_, _≤_}
 use lib.ListN.{length}
 use borrow.Author.Tests.{lt-ltb, le-ltb, le-leb, lt-leb}
-use Rattle.columns.specs.PlanLaws.{Sound, sound}
+use Rattle.tree.specs.SoundLaws.{Sound, sound}
 use native.Mathlib.Nat.{mul-le-mul}
 use borrow.Author.Needs.{needs}
 use Rattle.report.proofs.report.columns_there.Statement.{statement}
@@ -20,7 +20,7 @@ use Rattle.report.proofs.report.table_columns.Reads as table-columns-re
 
 -- the plan is sound
 fine : (s : tie.Start) → Sound (s .args .plan)
-fine s = let l : length (s .args .plan .gates) ≡ 384 = search needs in sound (s .args .plan) (s .pre) (omega arith)
+fine s = sound (s .args .plan) (s .pre)
 
 small : (a n b : ℕ) → a ≤ b → n ≤ 65536 → a * n ≤ b * 65536
 small a n b h k = mul-le-mul h k

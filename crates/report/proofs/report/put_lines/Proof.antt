@@ -9,7 +9,7 @@ use Prim.Native.Nat.{ℕ, _+_, _*_, _≤_}
 use lib.ListN.{length}
 use Rattle.pieces.specs.Setting.{constantRoom, copyRoom, tableRoom}
 use Rattle.columns.specs.Intake.{settingOf}
-use Rattle.columns.specs.PlanLaws.{Sound, sound}
+use Rattle.tree.specs.SoundLaws.{Sound, sound}
 use Rattle.tree.specs.Plan.{planPath}
 use Rattle.report.specs.Report.{planLine, pathLines, columnLines, constantName, copyName, tableName, tableColumns, idsLine, reportLines}
 use Rattle.report.specs.ReportLaws.{all-there, table-room, few-tables}
@@ -26,7 +26,7 @@ use Rattle.report.proofs.report.table_columns.Reads as table-columns-re
 
 -- the plan is sound
 fine : (s : tie.Start) → Sound (s .args .plan)
-fine s = let l : length (s .args .plan .gates) ≡ 384 = search needs in sound (s .args .plan) (s .pre .0) (omega arith)
+fine s = sound (s .args .plan) (s .pre .0)
 
 -- the columns are all there
 room : (s : tie.Start) → (constantRoom (settingOf (s .args .plan)) ≤ length (s .args .constants .now)) × (copyRoom (settingOf (s .args .plan)) ≤ length (s .args .copies .now)) × (tableRoom (settingOf (s .args .plan)) ≤ length (s .args .tables .now))

@@ -6,7 +6,7 @@ use Prim.Native.Nat.{ℕ, _+_, _*_, _<_, _≤_}
 use lib.ListN.{length}
 use borrow.Author.Tests.{lt-ltb, le-ltb, le-leb, lt-leb}
 use Rattle.parameters.specs.Lookup.{modeOf}
-use Rattle.columns.specs.PlanLaws.{Sound, sound}
+use Rattle.tree.specs.SoundLaws.{Sound, sound}
 use borrow.Author.Needs.{needs}
 use Rattle.report.proofs.report.table_columns.Statement.{statement}
 use Rattle.report.proofs.report.table_columns.Tie as tie
@@ -17,7 +17,7 @@ use Rattle.parameters.proofs.lookup.LookupParameters.mode.Reads as mode-reads
 
 -- the plan is sound
 fine : (s : tie.Start) → Sound (s .args .plan)
-fine s = let l : length (s .args .plan .gates) ≡ 384 = search needs in sound (s .args .plan) (s .pre) (omega arith)
+fine s = sound (s .args .plan) (s .pre)
 
 mode-requires : tie.Need-mode-requires
 mode-requires c κs = search needs

@@ -8,7 +8,7 @@ use mathlib.Core.Path.{_∙_, _≡_, ap}
 use native.Mathlib.Nat.{mod-eq-of-lt}
 use native.Mathlib.Omega.{arith}
 use Rattle.base.specs.Exponent.{exponent, exponent-least}
-use Rattle.selector.specs.Search.{factor}
+use Rattle.selector.specs.Search.{factorOf}
 use Rattle.tree.proofs.gates.factor_of.Statement.{statement}
 use Rattle.tree.proofs.gates.factor_of.Tie as tie
 
@@ -23,8 +23,8 @@ returns c =
     let d = c .before .before .args .degree in
     let n : c .before .if1 .least ≡ max 1 (d - 1) = ⊎-elim (λ y. omega (arith, y)) (λ y. omega (arith, y)) (c .before .if1 .came) in
     let low : exponent (max 1 (d - 1)) ≤ 10 = exponent-least (max 1 (d - 1)) 10 (omega arith) in
-    let small : factor d ≤ 2 ^ 10 = pow-mono low in
-    let e : c .power-above .result .value ≡ factor d =
+    let small : factorOf d ≤ 2 ^ 10 = pow-mono low in
+    let e : c .power-above .result .value ≡ factorOf d =
     c .power-above .ensures .1 ∙ ap (λ (z : ℕ). 2 ^ exponent z % 2 ^ 64) n ∙ mod-eq-of-lt (omega arith) in
     (e, omega arith)
 

@@ -4,7 +4,7 @@ use borrow.Author.Needs.{needs}
 use borrow.Author.Tests.{eq-eqb, ne-eqb}
 use mathlib.Core.Path.{_∙_, ap}
 use Rattle.selector.specs.MadeUp.{numbersAre}
-use Rattle.selector.specs.Search.{factor}
+use Rattle.selector.specs.Search.{factorOf}
 use Rattle.tree.proofs.made_up.numbers_fit.Statement.{statement}
 use Rattle.tree.proofs.made_up.numbers_fit.Tie as tie
 
@@ -14,13 +14,13 @@ factor-of-requires c κs = search needs
 returns : tie.Need-returns
 unfolding numbersAre
 returns c =
-    let d = c .before .before .if1 .taken in
-    let e = c .factor-of .ensures .0 ∙ ap factor d in
-    rw e (simp (eq-eqb _ _ d, eq-eqb _ _ (c .before .if2 .taken)))
+    let d = c .before .before .before .before .if1 .taken in
+    let e = c .before .factor-of .ensures .0 ∙ ap factorOf d in
+    rw e (simp (eq-eqb _ _ d, eq-eqb _ _ (c .before .before .if2 .taken)))
 
 returns-2 : tie.Need-returns-2
 unfolding numbersAre
-returns-2 c = simp (eq-eqb _ _ (c .before .if1 .taken), ne-eqb _ _ (c .if2 .left))
+returns-2 c = simp (eq-eqb _ _ (c .before .before .if1 .taken), ne-eqb _ _ (c .if2 .left))
 
 returns-3 : tie.Need-returns-3
 unfolding numbersAre

@@ -13,7 +13,8 @@ use Rattle.base.specs.Pick.{pick}
 use Rattle.selector.specs.Gates.{gateWords}
 use Rattle.selector.specs.MadeUp.{nodesFit}
 use Rattle.selector.specs.RecordLaws.{gates-sound}
-use Rattle.selector.specs.Refusals.{extraOf, gatesNumber, mostGates}
+use Rattle.base.specs.Limits.{mostGates}
+use Rattle.selector.specs.Refusals.{extraOf, gatesNumber}
 use Rattle.parameters.specs.Parameters.{parametersNumber}
 use Rattle.tree.specs.Plan.{partsFault}
 use Rattle.tree.proofs.plan.parts_fault.Statement.{statement}
@@ -73,9 +74,9 @@ gates-number-requires c κs = let l = lent (c .before) in (omega arith, omega ar
 -- what is left of the definition, where the tests before those of the gates are passed
 gates-left : (c : tie.Else4) →
     let a = c .before .before .before .before .before .before .args in
-    partsFault (a .parameters) (a .gates .now) (a .gate-count) (a .nodes .now) (a .node-count) (a .degree) (a .constants) (a .factor)
+    partsFault (a .parameters) (a .gates .now) (a .gate-count) (a .nodes .now) (a .node-count) (a .told)
     ≡ pick (eqb (gatesNumber (a .parameters .mode) (a .parameters .allowed) (take (a .gate-count * gateWords) (a .gates .now)) (a .gate-count)) 0)
-    (pick (nodesFit (extraOf (a .parameters .mode)) (take (a .gate-count * gateWords) (a .gates .now)) (a .gate-count) (a .nodes .now) (a .node-count) (a .degree) (a .constants) (a .factor)) 0 19)
+    (pick (nodesFit (extraOf (a .parameters .mode)) (take (a .gate-count * gateWords) (a .gates .now)) (a .gate-count) (a .nodes .now) (a .node-count) (a .told .degree) (a .told .constants) (a .told .factor)) 0 19)
     19
 unfolding partsFault
 gates-left c =
@@ -104,12 +105,12 @@ nodes-fit-requires c κs =
 -- where the gates are accepted, all that is left is whether the nodes fit
 nodes-left : (c : tie.After-nodes-fit) →
     let a = c .before .before .before .before .before .before .before .before .before .before .before .args in
-    pick (c .nodes-fit .result) 0 19 ≡ partsFault (a .parameters) (a .gates .now) (a .gate-count) (a .nodes .now) (a .node-count) (a .degree) (a .constants) (a .factor)
+    pick (c .nodes-fit .result) 0 19 ≡ partsFault (a .parameters) (a .gates .now) (a .gate-count) (a .nodes .now) (a .node-count) (a .told)
 nodes-left c =
     let a = c .before .before .before .before .before .before .before .before .before .before .before .args in
     let gs = take (a .gate-count * gateWords) (a .gates .now) in
     let x = c .nodes-fit .ensures
-    ∙ ap (λ (z : ℕ). nodesFit z gs (a .gate-count) (a .nodes .now) (a .node-count) (a .degree) (a .constants) (a .factor)) (c .before .extra-of .ensures) in
+    ∙ ap (λ (z : ℕ). nodesFit z gs (a .gate-count) (a .nodes .now) (a .node-count) (a .told .degree) (a .told .constants) (a .told .factor)) (c .before .extra-of .ensures) in
     let e = sym (c .before .before .before .gates-number .ensures) ∙ c .before .before .if5 .left in
     rw (gates-left (c .before .before .before .before .before), eq-eqb (gatesNumber (a .parameters .mode) (a .parameters .allowed) gs (a .gate-count)) 0 e, x)
 

@@ -7,7 +7,7 @@ use mathlib.Core.Path.{_∙_, _≡_, ap, refl}
 use native.Mathlib.Omega.{arith}
 use Rattle.base.specs.Exponent.{exponent, exponent-least}
 use Rattle.selector.specs.RecordLaws.{top-constants, top-degree}
-use Rattle.selector.specs.Search.{factor, firstTarget, searchTree, targets}
+use Rattle.selector.specs.Search.{factorOf, firstTarget, searchTree, targets}
 use Rattle.tree.proofs.SearchLaws.{bounds-are, cap, cap-all, cap-next, order-distinct, order-listed, search-begin, target-lost, target-none, target-won, within}
 use Rattle.tree.proofs.search.search.Statement.{statement}
 use Rattle.tree.proofs.search.search.Tie as tie
@@ -54,7 +54,7 @@ loop-holds c =
       omega arith,
       omega (arith, c .factor-of .ensures .1),
       p .1,
-      search-begin (a .gates .now) (a .many) (a .extra) _ (c .factor-of .ensures .0 ∙ ap factor (r .ensures .1 .0)),
+      search-begin (a .gates .now) (a .many) (a .extra) _ (c .factor-of .ensures .0 ∙ ap factorOf (r .ensures .1 .0)),
     )
 
 try-find-placement-for-degree-requires :

@@ -7,11 +7,10 @@ use mathlib.Core.Bool.{true}
 use native.Mathlib.Omega.{arith}
 use native.Mathlib.Nat.{mul-le-mul}
 use Prim.Native.Nat.{ℕ, _+_, _*_, _<_, _≤_}
-use lib.ListN.{length, getD}
 use Rattle.pieces.specs.Setting.{cols, stands, constantRoom, copyRoom, specialRoom}
 use Rattle.pieces.specs.NumberLaws.{Stood, stood}
 use Rattle.columns.specs.Intake.{settingOf, stateOf}
-use Rattle.columns.specs.PlanLaws.{Sound, sound}
+use Rattle.tree.specs.SoundLaws.{Sound, sound}
 use lib.Dec.{eqb}
 use borrow.Author.Tests.{eq-eqb, ne-eqb}
 use Rattle.pieces.specs.Finishing.{complete}
@@ -20,7 +19,7 @@ use Rattle.columns.proofs.intake.Intake.complete.Tie as tie
 
 -- the plan is sound
 fine : (s : tie.Start) → Sound (s .args .self .plan)
-fine s = let l : length (s .args .self .plan .gates) ≡ 384 = search needs in sound (s .args .self .plan) (s .pre) (omega arith)
+fine s = sound (s .args .self .plan) (s .pre)
 
 small : (a n b : ℕ) → a ≤ b → n ≤ 65536 → a * n ≤ b * 65536
 small a n b h k = mul-le-mul h k

@@ -7,11 +7,10 @@ use mathlib.Core.Bool.{true}
 use native.Mathlib.Omega.{arith}
 use native.Mathlib.Nat.{mul-le-mul}
 use Prim.Native.Nat.{ℕ, _+_, _*_, _<_, _≤_}
-use lib.ListN.{length, getD}
 use Rattle.pieces.specs.Setting.{cols, stands, constantRoom, copyRoom, specialRoom}
 use Rattle.pieces.specs.NumberLaws.{Stood, stood}
 use Rattle.columns.specs.Intake.{settingOf, stateOf}
-use Rattle.columns.specs.PlanLaws.{Sound, sound}
+use Rattle.tree.specs.SoundLaws.{Sound, sound}
 use Rattle.pieces.specs.Finishing.{complete, allUsed, scratchFine, finishNumber}
 use Rattle.columns.specs.IntakeLaws.{plan-fine, finish-19, finish-10-copies, finish-10-scratch, finish-16, finish-17, finish-18, finish-0, finish-refused, finish-taken}
 use borrow.Author.Needs.{needs}
@@ -28,8 +27,7 @@ upright c = sym (c .before .stands .ensures) ∙ c .if1 .taken
 fine : (c : tie.Then1) → Sound (c .before .before .before .before .args .self .plan)
 fine c =
     let q = c .before .before .before .before .args .self .plan in
-    let l : length (q .gates) ≡ 384 = search needs in
-    sound q (plan-fine (c .before .before .before .before .args .self) (upright c)) (omega arith)
+    sound q (plan-fine (c .before .before .before .before .args .self) (upright c))
 
 counts : (c : tie.Then1) → Stood (settingOf (c .before .before .before .before .args .self .plan)) (stateOf (c .before .before .before .before .args .self))
 counts c = stood (settingOf (c .before .before .before .before .args .self .plan)) (stateOf (c .before .before .before .before .args .self)) (upright c)

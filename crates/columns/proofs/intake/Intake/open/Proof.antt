@@ -14,11 +14,11 @@ use Rattle.labels.specs.Labels.{searchNumber, fillNumber}
 use Rattle.labels.specs.LabelLaws.{written-refused, written-is}
 use Rattle.tree.specs.Plan.{planFault, zeroPlan}
 use Rattle.tree.specs.declared.plan.Plan.{Plan}
-use Rattle.pieces.specs.Opening.{roomToOpen, openNumber}
+use Rattle.pieces.specs.Opening.{roomToOpen, openNumber, zeroState}
 use Rattle.pieces.specs.Writing.{cleared}
-use Rattle.columns.specs.Intake.{settingOf, storeOf, startOf, refusedWith}
+use Rattle.columns.specs.Intake.{settingOf, storeOf, withState, zeroIntake, refusedWith}
 use Rattle.columns.specs.IntakeLaws.{short-room, long-room, open-19, open-10, open-own, opened-long, open-refused, open-taken}
-use Rattle.columns.specs.PlanLaws.{sound}
+use Rattle.tree.specs.SoundLaws.{sound}
 use Rattle.columns.specs.declared.intake.Intake.{Intake}
 use borrow.Author.Needs.{needs}
 use Rattle.columns.proofs.intake.Intake.open.Statement.{statement}
@@ -36,13 +36,9 @@ fault-requires c κs = search needs
 refused-requires : tie.Need-refused-requires
 refused-requires c κs = search needs
 
--- the plan's gate words
-long : (s : tie.Start) → length (s .args .plan .gates) ≡ 384
-long s = search needs
-
 -- the state of zeros that a refusal hands back
-zeros : (c : tie.After-start) → c .start .result ≡ startOf zeroPlan 0
-zeros c = c .start .ensures ∙ ap (λ (q : Plan). startOf q 0) (c .before .zero .ensures)
+zeros : (c : tie.After-start) → c .start .result ≡ zeroIntake
+zeros c = c .start .ensures ∙ ap (λ (q : Plan). withState q zeroState) (c .before .zero .ensures)
 
 fine : (c : tie.Else1) → planFault (c .before .before .before .before .before .before .before .before .args .plan) ≡ 0
 fine c = sym (c .before .fault .ensures) ∙ c .if1 .left
@@ -105,8 +101,7 @@ number-is c =
     let a = c .before .before .before .before .before .before .before .before .before .before .before .before .before .before .before .before .args in
     let q = a .plan in
     let b = storeOf (a .constants .now) (a .copies .now) (a .scratch .now) (a .tables .now) in
-    let l = long (c .before .before .before .before .before .before .before .before .before .before .before .before .before .before .before .before) in
-    let w = sound q (fine (c .before .before .before .before .before .before .before .before)) (omega arith) in
+    let w = sound q (fine (c .before .before .before .before .before .before .before .before)) in
     open-own q b (fine (c .before .before .before .before .before .before .before .before)) (room (c .before .before)) ∙ sym (c .fill-labels .ensures .0 ∙ fill-is (q .trace) (q .copy) (a .copies .now) (w .ranges-fit-too) (opened-long q b (room (c .before .before)) .1))
 
 refused-requires-3 : tie.Need-refused-requires-3
@@ -162,8 +157,7 @@ clear-requires-3 c κs =
 add-large : tie.Need-add-large
 add-large c =
     let q = c .before .before .before .before .before .before .before .before .before .before .before .before .before .before .before .before .before .before .before .before .before .before .before .before .before .before .before .before .before .before .before .before .before .args .plan in
-    let l = long (c .before .before .before .before .before .before .before .before .before .before .before .before .before .before .before .before .before .before .before .before .before .before .before .before .before .before .before .before .before .before .before .before .before) in
-    let w = sound q (fine (c .before .before .before .before .before .before .before .before .before .before .before .before .before .before .before .before .before .before .before .before .before .before .before .before .before)) (omega arith) in
+    let w = sound q (fine (c .before .before .before .before .before .before .before .before .before .before .before .before .before .before .before .before .before .before .before .before .before .before .before .before .before)) in
     let r = c .before .before .before .before .before .before .before .before .before .before .before .before .before .rooms-of .ensures in
     let m : q .copy * q .trace ≤ 64 * 65536 = mul-le-mul (w .ranges .columns) (w .ranges .long) in
     omega (arith, m, r .copies-are, r .scratch-is, w .variables)

@@ -10,12 +10,12 @@ use lib.ListN.{length}
 use Rattle.pieces.specs.Setting.{stands}
 use Rattle.pieces.specs.NumberLaws.{Stood, stood}
 use Rattle.columns.specs.Intake.{settingOf, stateOf}
-use Rattle.columns.specs.PlanLaws.{Sound, sound}
+use Rattle.tree.specs.SoundLaws.{Sound, sound}
 use Rattle.tree.specs.Plan.{planPath}
 use Rattle.pieces.specs.Records.{rowsOf}
 use Rattle.pieces.specs.Rows.{rowsNumber, rowsWritten}
 use Rattle.columns.specs.IntakeLaws.{plan-fine, rows-19, rows-10, rows-own, rows-refused, rows-taken}
-use Rattle.columns.proofs.RowLoop.{gates-fault}
+use Rattle.columns.proofs.RowLoop.{GatesOf, gates-of, gates-fault}
 use Rattle.columns.proofs.intake.Intake.rows.Statement.{statement}
 use Rattle.columns.proofs.intake.Intake.rows.Tie as tie
 
@@ -29,8 +29,7 @@ upright c = sym (c .before .stands .ensures) ∙ c .if1 .taken
 fine : (c : tie.Then1) → Sound (c .before .before .before .before .args .self .plan)
 fine c =
     let q = c .before .before .before .before .args .self .plan in
-    let l : length (q .gates) ≡ 384 = search needs in
-    sound q (plan-fine (c .before .before .before .before .args .self) (upright c)) (omega arith)
+    sound q (plan-fine (c .before .before .before .before .args .self) (upright c))
 
 counts : (c : tie.Then1) → Stood (settingOf (c .before .before .before .before .args .self .plan)) (stateOf (c .before .before .before .before .args .self))
 counts c = stood (settingOf (c .before .before .before .before .args .self .plan)) (stateOf (c .before .before .before .before .args .self)) (upright c)
@@ -53,19 +52,22 @@ returns c =
     (c .refused .ensures ∙ k .0, k .1)
 
 gate-rows-requires : tie.Need-gate-rows-requires
-gate-rows-requires c κs = plan-fine (c .before .before .before .before .before .before .before .before .args .self) (upright (c .before .before .before .before))
+gate-rows-requires c κs = search needs
+
+gates : (c : tie.After-gate-rows) → GatesOf (c .before .before .before .before .before .before .before .before .before .args .self .plan) (c .gate-rows .result)
+gates c = gates-of (c .before .before .before .before .before .before .before .before .before .args .self .plan) (c .gate-rows .result) (plan-fine (c .before .before .before .before .before .before .before .before .before .args .self) (upright (c .before .before .before .before .before))) (c .gate-rows .ensures)
 
 test-rows-requires : tie.Need-test-rows-requires
 test-rows-requires c κs =
     let w = fine (c .before .before .before .before .before .before .before .before .before) in
-    (omega (arith, w .few-gates, c .before .before .before .before .gate-rows .ensures .many-is), counts (c .before .before .before .before .before .before .before .before .before) .rows-in, w .ranges .long)
+    (omega (arith, w .few-gates, gates (c .before .before .before .before) .many-is), counts (c .before .before .before .before .before .before .before .before .before) .rows-in, w .ranges .long)
 
 -- the piece's number is its first faulty record's
 own : (c : tie.After-test-rows) → let a = c .before .before .before .before .before .before .before .before .before .before .before .before .before .before .args in rowsNumber (settingOf (a .self .plan)) (stateOf (a .self)) (a .piece .now) (a .constants .now) ≡ c .test-rows .result .number
 own c =
     let a = c .before .before .before .before .before .before .before .before .before .before .before .before .before .before .args in
     rows-own (a .self) (a .piece .now) (a .constants .now) (upright (c .before .before .before .before .before .before .before .before .before .before)) (omega (arith, c .before .before .before .before .before .before .if2 .left, c .before .before .before .before .before .before .before .before .rooms-of .ensures .constants-are))
-    ∙ sym (c .test-rows .ensures .0 ∙ gates-fault (a .self .plan) (c .before .before .before .before .before .gate-rows .result) (c .before .before .before .before .before .gate-rows .ensures) (a .self .plan .trace) (a .self .rows) (rowsOf (a .piece .now)))
+    ∙ sym (c .test-rows .ensures .0 ∙ gates-fault (a .self .plan) (c .before .before .before .before .before .gate-rows .result) (gates (c .before .before .before .before .before)) (a .self .plan .trace) (a .self .rows) (rowsOf (a .piece .now)))
 
 refused-requires-2 : tie.Need-refused-requires-2
 refused-requires-2 c κs = search needs
@@ -80,7 +82,7 @@ write-rows-requires : tie.Need-write-rows-requires
 write-rows-requires c κs =
     let q = c .before .before .before .before .before .before .before .before .before .before .before .before .before .before .before .before .before .args .self .plan in
     let w = fine (c .before .before .before .before .before .before .before .before .before .before .before .before .before) in
-    let g = c .before .before .before .before .before .before .before .before .gate-rows .ensures in
+    let g = gates (c .before .before .before .before .before .before .before .before) in
     let room : q .constants * q .trace ≤ length (c .before .before .before .before .before .before .before .before .before .before .before .before .before .before .before .before .before .args .constants .now) = omega (arith, c .before .before .before .before .before .before .before .before .before .if2 .left, c .before .before .before .before .before .before .before .before .before .before .before .rooms-of .ensures .constants-are) in (
       (w .ranges .long, omega (arith, w .height), omega (arith, w .few-gates, g .many-is), room),
       (rw (g .many-is) (g .room), sym (c .before .before .before .test-rows .ensures .0) ∙ c .before .if3 .left),
@@ -95,7 +97,7 @@ returns-3 c =
     let a = c .before .before .before .before .before .before .before .before .before .before .before .before .before .before .before .before .before .before .before .before .args in
     let z = c .before .before .before .before .if3 .left in
     let k = rows-taken (a .self) (a .piece .now) (a .constants .now) (own (c .before .before .before .before .before .before) ∙ z) in
-    let g = c .before .before .before .before .before .before .before .before .before .before .before .gate-rows .ensures in
+    let g = gates (c .before .before .before .before .before .before .before .before .before .before .before) in
     let w = c .before .before .write-rows .ensures in
     let m = c .before .before .before .before .before .before .test-rows .ensures .1 z in
     (rw (m .0, m .1) (k .0), w (planPath (a .self .plan)) (rw (g .many-is) (g .spells-paths)) ∙ k .1)

@@ -12,7 +12,7 @@ use lib.ListN.{length, getD}
 use Rattle.pieces.specs.Setting.{cols, stands, constantRoom, copyRoom, specialRoom}
 use Rattle.pieces.specs.NumberLaws.{Stood, stood}
 use Rattle.columns.specs.Intake.{settingOf, stateOf}
-use Rattle.columns.specs.PlanLaws.{Sound, sound}
+use Rattle.tree.specs.SoundLaws.{Sound, sound}
 use Rattle.pieces.specs.SWords.{sWordsFault, sWordsWritten}
 use Rattle.pieces.specs.FaultLaws.{words-room}
 use Rattle.columns.specs.IntakeLaws.{plan-fine, words-19, words-10, words-own, words-refused, words-taken}
@@ -30,8 +30,7 @@ upright c = sym (c .before .stands .ensures) ∙ c .if1 .taken
 fine : (c : tie.Then1) → Sound (c .before .before .before .before .args .self .plan)
 fine c =
     let q = c .before .before .before .before .args .self .plan in
-    let l : length (q .gates) ≡ 384 = search needs in
-    sound q (plan-fine (c .before .before .before .before .args .self) (upright c)) (omega arith)
+    sound q (plan-fine (c .before .before .before .before .args .self) (upright c))
 
 counts : (c : tie.Then1) → Stood (settingOf (c .before .before .before .before .args .self .plan)) (stateOf (c .before .before .before .before .args .self))
 counts c = stood (settingOf (c .before .before .before .before .args .self .plan)) (stateOf (c .before .before .before .before .args .self)) (upright c)

@@ -1,16 +1,14 @@
--- A path as the tree layer hands it out, bits and a length, and as the columns write it, digit by digit.
+-- A list of binary digits and the words that spell it: a number of digits, and a word whose least bit is the first.
 --
--- Main definitions: `digits`, `Spelled`. Main statements: `spelled-digits`, `digits-many`, and `digits-turn`, `digits-left` for loops that write the digits.
+-- Main definitions: `digits`, `Spelled`. Main statements: `digits-many`, and `digits-turn`, `digits-left` for loops that write the digits.
 use mathlib.Core.Path.{_≡_, refl, sym, ap, _∙_}
 use mathlib.Core.List.{List, [], _∷_}
-use Prim.Native.Nat.{ℕ, zero, suc, _+_, _-_, _*_, _/_, _%_, _<_}
+use Prim.Native.Nat.{ℕ, zero, suc, _+_, _-_, _/_, _%_, _<_}
 use native.Mathlib.Omega.{arith}
 use lib.ListN.{length, getD, drop}
 use Rattle.base.specs.Drops.{drop-one}
-use Rattle.pieces.specs.RecordLaws.{Each}
-use Rattle.selector.specs.Paths.{bitsOf}
 
--- the first n digits of a word, the least first: the step from the root is bit 0
+-- the first n digits of a word, the least first
 unfoldable pub digits : ℕ → ℕ → List ℕ
 digits zero bits = []
 digits (suc n) bits = bits % 2 ∷ digits n (bits / 2)
@@ -19,24 +17,10 @@ example : digits 4 6 ≡ 0 ∷ 1 ∷ 1 ∷ 0 ∷ []
 unfolding digits
 example = refl
 
--- every digit is 0 or 1, and the word and the number are the path's
+-- the word and the number spell the list
 pub record Spelled (path : List ℕ) (bits steps : ℕ) : Type 0 where
-  pub digits-are : Each (λ (d : ℕ). d < 2) path
-  pub bits-are : bits ≡ bitsOf path
+  pub digits-are : digits steps bits ≡ path
   pub steps-are : steps ≡ length path
-
-path-digits : (path : List ℕ) → Each (λ (d : ℕ). d < 2) path → digits (length path) (bitsOf path) ≡ path
-unfolding digits bitsOf
-path-digits [] e = refl
-path-digits (d ∷ ds) e =
-    let b = bitsOf ds in
-    let first : (b * 2 + d) % 2 ≡ d = omega (arith, e .0) in
-    let rest : (b * 2 + d) / 2 ≡ b = omega (arith, e .0) in
-    rw (first, rest, path-digits ds (e .1))
-
--- a spelled path is its digits
-pub spelled-digits : (path : List ℕ) (bits steps : ℕ) → Spelled path bits steps → digits steps bits ≡ path
-spelled-digits path bits steps s = rw (s .bits-are, s .steps-are) (path-digits path (s .digits-are))
 
 pub digits-many : (n bits : ℕ) → length (digits n bits) ≡ n
 unfolding digits

@@ -1,0 +1,55 @@
+// What rows need of the gates of a plan, one answer for all of them.
+ghost use mathlib.Core.Path.{_≡_};
+ghost use Prim.Native.Nat.{ℕ, _*_, _≤_};
+ghost use lib.ListN.{length};
+ghost use Rattle.base.specs.Fills.{Filled};
+ghost use Rattle.selector.specs.Gates.{gateWords, constantsOf};
+ghost use Rattle.selector.specs.MadeUp.{wanted};
+ghost use Rattle.tree.specs.Plan.{noGateRows};
+use crate::gates::constants_of;
+use crate::made_up::wanted_of;
+
+// A refusal number, or 0, and how many gates are listed; of each its path, as `Path` has it, 1 where it has a selector and 0 where it has none, and its own number
+// of constants. All of it is 0 for a made-up plan, and so are the words of gates that are not listed.
+pub struct GateRows {
+    pub number: u64,
+    pub many: u64,
+    pub bits: [u64; 128],
+    pub steps: [u64; 128],
+    pub selected: [u64; 128],
+    pub own: [u64; 128],
+}
+
+// The answer for a made-up plan.
+pub(crate) fn no_gate_rows() -> GateRows
+    ensures { λ r. ⌜ r ≡ noGateRows ⌝ }
+{
+    GateRows {
+        number: 19,
+        many: 0,
+        bits: [0; 128],
+        steps: [0; 128],
+        selected: [0; 128],
+        own: [0; 128],
+    }
+}
+
+// Whether each of the listed gates has a selector, and its constants, where the lookup gate has `extra`.
+pub(crate) fn list_gates(
+    gates: &[u64],
+    many: usize,
+    extra: u64,
+    selected: &mut [u64; 128],
+    own: &mut [u64; 128],
+)
+    requires { ⌜ (many * gateWords ≤ length (now gates)) × (many ≤ 128) × (length (now selected) ≡ 128) × (length (now own) ≡ 128) ⌝ }
+    ensures { λ _. ⌜ Filled (wanted (now (gates .entry)) many) 0 many (now (selected .entry)) (now (selected .exit)) ⌝ }
+    ensures { λ _. ⌜ Filled (constantsOf extra (now (gates .entry))) 0 many (now (own .entry)) (now (own .exit)) ⌝ }
+{
+    let mut g: usize = 0;
+    while g < many {
+        selected[g] = wanted_of(gates, many, g);
+        own[g] = constants_of(gates, g as u64, extra);
+        g = g + 1;
+    }
+}
