@@ -19,7 +19,8 @@ use Rattle.base.specs.Firsts.{first-zero}
 use Rattle.base.specs.Limits.{mostGates}
 use Rattle.base.specs.Pick.{pick}
 use Rattle.base.specs.Tables.{table-at}
-use Rattle.labels.specs.Ranges.{Ranges, ranges-fit, rangesFit}
+use Rattle.labels.specs.Ranges.{rangesFit}
+use Rattle.labels.specs.RangesLaws.{Ranges, ranges-fit}
 use Rattle.selector.specs.Gates.{gateWords}
 use Rattle.selector.specs.Inner.{Sound as Records}
 use Rattle.selector.specs.MadeUp.{wanted}
