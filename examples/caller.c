@@ -50,15 +50,15 @@ static const uint64_t list[] = {
 /* Opens the columns, gives the rows, then the cells in two pieces and finishing as one list. */
 static void give(struct buffer plan, struct buffer constants, struct buffer copies)
 {
-    struct buffer state = buffer(setup_state_words());
+    struct buffer state = buffer(kinchoyu_state_words());
     struct buffer scratch = buffer(2 * parameters[4]), tables = buffer(0);
-    accepted("open", setup_open(plan.words, plan.length, state.words, state.length,
+    accepted("open", kinchoyu_open(plan.words, plan.length, state.words, state.length,
                                 constants.words, constants.length, copies.words, copies.length,
                                 scratch.words, scratch.length, tables.words, tables.length));
-    accepted("rows", setup_rows(state.words, state.length, rows, WORDS(rows),
+    accepted("rows", kinchoyu_rows(state.words, state.length, rows, WORDS(rows),
                                 constants.words, constants.length));
     uint64_t numbers[3];
-    accepted("calls", setup_calls(state.words, state.length, list, WORDS(list), numbers, WORDS(numbers),
+    accepted("calls", kinchoyu_calls(state.words, state.length, list, WORDS(list), numbers, WORDS(numbers),
                                   constants.words, constants.length, copies.words, copies.length,
                                   scratch.words, scratch.length, tables.words, tables.length));
     for (size_t i = 0; i < WORDS(numbers); i++) {
@@ -84,7 +84,7 @@ static void print_columns(const char *name, struct buffer columns)
 static void print_path(struct buffer plan, uint64_t gate)
 {
     uint64_t path[2];
-    accepted("path", setup_path(plan.words, plan.length, gate, path, WORDS(path)));
+    accepted("path", kinchoyu_path(plan.words, plan.length, gate, path, WORDS(path)));
     printf("path %" PRIu64 "%s", gate, path[1] > 0 ? " " : "");
     for (uint64_t i = 0; i < path[1]; i++) {
         printf("%d", (int)(path[0] >> i & 1));
@@ -94,12 +94,12 @@ static void print_path(struct buffer plan, uint64_t gate)
 
 int main(void)
 {
-    struct buffer plan = buffer(setup_plan_words());
-    accepted("plan", setup_plan(parameters, WORDS(parameters), gates, WORDS(gates),
+    struct buffer plan = buffer(kinchoyu_plan_words());
+    accepted("plan", kinchoyu_plan(parameters, WORDS(parameters), gates, WORDS(gates),
                                 plan.words, plan.length));
     uint64_t stats[3], id[2];
-    accepted("stats", setup_stats(plan.words, plan.length, stats, WORDS(stats)));
-    accepted("table_id", setup_table_id(plan.words, plan.length, id, WORDS(id)));
+    accepted("stats", kinchoyu_stats(plan.words, plan.length, stats, WORDS(stats)));
+    accepted("table_id", kinchoyu_table_id(plan.words, plan.length, id, WORDS(id)));
 
     /* K + S constant columns and C copy columns of N words */
     struct buffer constants = buffer((stats[1] + parameters[3]) * parameters[0]);

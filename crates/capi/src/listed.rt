@@ -6,7 +6,7 @@ use stage::listed::run_listing;
 
 // Reads a listing, plans, opens, gives every section and finishes. A refusal writes nothing.
 #[no_mangle]
-pub extern "C" fn setup_run(
+pub extern "C" fn kinchoyu_run(
     listing: &[u64],
     constants: &mut [u64],
     copies: &mut [u64],

@@ -1,11 +1,11 @@
--- `planning::setup_label` meets its contract: 10, then the label's own number.
+-- `planning::kinchoyu_label` meets its contract: 10, then the label's own number.
 -- Assumes nothing.
 use borrow.Author.Needs.{needs}
 use lib.ListN.{set}
 use mathlib.Core.Path.{_∙_, ap}
 use Rattle.capi.specs.PlanningLaws.{label-short, label-taken}
-use Rattle.capi.proofs.planning.setup_label.Statement.{statement}
-use Rattle.capi.proofs.planning.setup_label.Tie as tie
+use Rattle.capi.proofs.planning.kinchoyu_label.Statement.{statement}
+use Rattle.capi.proofs.planning.kinchoyu_label.Tie as tie
 
 returns : tie.Need-returns
 returns c =
@@ -28,6 +28,6 @@ returns-2 c =
     let k = label-taken (a .n) (a .c) (a .cell) (a .out .now) (c .before .if1 .left) in
     (e .0 ∙ k .0, ap (set (a .out .now) 0) (e .1) ∙ k .1)
 
-pub setup-label-spec : {M : Type 1} → statement M
-setup-label-spec =
+pub kinchoyu-label-spec : {M : Type 1} → statement M
+kinchoyu-label-spec =
     tie.close (tie.spec returns label-requires slice-write-out same-length returns-2)

@@ -1,4 +1,4 @@
--- `planning::setup_stats` meets its contract: D, K and F of the plan that the words encode.
+-- `planning::kinchoyu_stats` meets its contract: D, K and F of the plan that the words encode.
 -- Assumes nothing.
 use Prim.Native.Nat.{ℕ}
 use borrow.Author.Needs.{needs}
@@ -6,8 +6,8 @@ use mathlib.Core.Path.{_∙_, _≡_, ap}
 use Rattle.tree.specs.Plan.{planFault}
 use Rattle.tree.specs.declared.plan.Plan.{Plan}
 use Rattle.capi.specs.Planning.{handLeft, handNumber, statsWords}
-use Rattle.capi.proofs.planning.setup_stats.Statement.{statement}
-use Rattle.capi.proofs.planning.setup_stats.Tie as tie
+use Rattle.capi.proofs.planning.kinchoyu_stats.Statement.{statement}
+use Rattle.capi.proofs.planning.kinchoyu_stats.Tie as tie
 
 decode-plan-requires : tie.Need-decode-plan-requires
 decode-plan-requires c κs = search needs
@@ -35,8 +35,8 @@ returns c =
       l ∙ ap (λ (n : ℕ). handLeft n (statsWords (d .result)) out) f ∙ ap (λ (q : Plan). handLeft (planFault q) (statsWords q) out) (d .ensures),
     )
 
-pub setup-stats-spec : {M : Type 1} → statement M
-setup-stats-spec =
+pub kinchoyu-stats-spec : {M : Type 1} → statement M
+kinchoyu-stats-spec =
     tie.close
     (tie.spec
     decode-plan-requires

@@ -1,4 +1,4 @@
--- `planning::setup_table_id` meets its contract: the table id of the plan that the words encode.
+-- `planning::kinchoyu_table_id` meets its contract: the table id of the plan that the words encode.
 -- Assumes nothing.
 use borrow.Author.Needs.{needs}
 use mathlib.Core.Path.{_∙_, _≡_, ap}
@@ -6,8 +6,8 @@ use Rattle.tree.specs.Plan.{tableIdAnswer}
 use Rattle.tree.specs.declared.plan.TableId.{TableId}
 use Rattle.encoding.specs.Encoding.{planOf}
 use Rattle.capi.specs.Planning.{handLeft, handNumber, idWords}
-use Rattle.capi.proofs.planning.setup_table_id.Statement.{statement}
-use Rattle.capi.proofs.planning.setup_table_id.Tie as tie
+use Rattle.capi.proofs.planning.kinchoyu_table_id.Statement.{statement}
+use Rattle.capi.proofs.planning.kinchoyu_table_id.Tie as tie
 
 decode-plan-requires : tie.Need-decode-plan-requires
 decode-plan-requires c κs = search needs
@@ -35,8 +35,8 @@ returns c =
       l ∙ ap (λ (x : TableId). handLeft (x .number) (idWords x) (a .out .now)) e,
     )
 
-pub setup-table-id-spec : {M : Type 1} → statement M
-setup-table-id-spec =
+pub kinchoyu-table-id-spec : {M : Type 1} → statement M
+kinchoyu-table-id-spec =
     tie.close
     (tie.spec
     decode-plan-requires

@@ -1,4 +1,4 @@
--- `intake::setup_cells` meets its contract: the call of the state that the words encode.
+-- `intake::kinchoyu_cells` meets its contract: the call of the state that the words encode.
 -- Assumes nothing.
 use borrow.Author.Needs.{needs}
 use mathlib.Core.Path.{_∙_, ap}
@@ -6,8 +6,8 @@ use Rattle.columns.specs.Intake.{cellsAnswer, cellsLeft}
 use Rattle.columns.specs.declared.intake.Intake.{Intake}
 use Rattle.pieces.specs.Setting.{cols}
 use Rattle.capi.specs.IntakeLaws.{cells-there, passed}
-use Rattle.capi.proofs.intake.setup_cells.Statement.{statement}
-use Rattle.capi.proofs.intake.setup_cells.Tie as tie
+use Rattle.capi.proofs.intake.kinchoyu_cells.Statement.{statement}
+use Rattle.capi.proofs.intake.kinchoyu_cells.Tie as tie
 
 decode-state-requires : tie.Need-decode-state-requires
 decode-state-requires c κs = search needs
@@ -37,8 +37,8 @@ returns c =
     let k = passed (λ (s : Intake). cellsAnswer s (a .piece .now) b) (a .state .now) _ _ _ _ e (t .0) (g .0) (g .1) (cells-there _ _ _ e _ _ (t .0)) in
     (k .0, (k .1, t .1 ∙ ap (λ (s : Intake). cellsLeft s (a .piece .now) b) e))
 
-pub setup-cells-spec : {M : Type 1} → statement M
-setup-cells-spec =
+pub kinchoyu-cells-spec : {M : Type 1} → statement M
+kinchoyu-cells-spec =
     tie.close
     (tie.spec
     decode-state-requires

@@ -1,12 +1,12 @@
--- `intake::setup_open` meets its contract: a state that is too short first, where 19 still goes before 10; then the opening of the plan that the words encode.
+-- `intake::kinchoyu_open` meets its contract: a state that is too short first, where 19 still goes before 10; then the opening of the plan that the words encode.
 -- Assumes nothing.
 use borrow.Author.Needs.{needs}
 use lib.ListN.{length}
 use mathlib.Core.Path.{_∙_, _≡_, sym}
 use Rattle.columns.specs.Intake.{storeOf}
 use Rattle.capi.specs.IntakeLaws.{open-given, open-made-up, open-short}
-use Rattle.capi.proofs.intake.setup_open.Statement.{statement}
-use Rattle.capi.proofs.intake.setup_open.Tie as tie
+use Rattle.capi.proofs.intake.kinchoyu_open.Statement.{statement}
+use Rattle.capi.proofs.intake.kinchoyu_open.Tie as tie
 
 decode-plan-requires : tie.Need-decode-plan-requires
 decode-plan-requires c κs = search needs
@@ -63,8 +63,8 @@ returns-3 c =
     open-given (a .plan .now) (a .state .now) (storeOf (a .constants .now) (a .copies .now) (a .scratch .now) (a .tables .now)) (c .before .before .before .before .before .before .before .before .before .before .before .before .before .before .before .before .before .before .if1 .left)
     _ _ _ _ (c .before .before .before .before .before .before .before .before .before .before .before .before .before .before .before .before .before .before .before .decode-plan .ensures) (t .0) (c .before .before .encode-state .ensures) (t .1)
 
-pub setup-open-spec : {M : Type 1} → statement M
-setup-open-spec =
+pub kinchoyu-open-spec : {M : Type 1} → statement M
+kinchoyu-open-spec =
     tie.close
     (tie.spec
     decode-plan-requires

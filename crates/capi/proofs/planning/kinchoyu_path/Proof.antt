@@ -1,9 +1,9 @@
--- `planning::setup_path` meets its contract: the path of the plan that the words encode.
+-- `planning::kinchoyu_path` meets its contract: the path of the plan that the words encode.
 -- Assumes nothing.
 use borrow.Author.Needs.{needs}
 use Rattle.capi.specs.PlanningLaws.{path-called}
-use Rattle.capi.proofs.planning.setup_path.Statement.{statement}
-use Rattle.capi.proofs.planning.setup_path.Tie as tie
+use Rattle.capi.proofs.planning.kinchoyu_path.Statement.{statement}
+use Rattle.capi.proofs.planning.kinchoyu_path.Tie as tie
 
 decode-plan-requires : tie.Need-decode-plan-requires
 decode-plan-requires c κs = search needs
@@ -28,8 +28,8 @@ returns c =
     let a = c .before .before .before .before .before .before .before .before .before .before .args in
     path-called (a .plan .now) (a .out .now) (a .gate) _ _ _ _ (c .before .before .before .before .before .before .before .decode-plan .ensures) (c .before .before .before .before .before .before .path .ensures) (c .before .before .before .hand .ensures) (c .with-room .ensures) (c .before .before .before .hand .kept .1 .0)
 
-pub setup-path-spec : {M : Type 1} → statement M
-setup-path-spec =
+pub kinchoyu-path-spec : {M : Type 1} → statement M
+kinchoyu-path-spec =
     tie.close
     (tie.spec
     decode-plan-requires

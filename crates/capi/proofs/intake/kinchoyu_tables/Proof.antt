@@ -1,12 +1,12 @@
--- `intake::setup_tables` meets its contract: the call of the state that the words encode.
+-- `intake::kinchoyu_tables` meets its contract: the call of the state that the words encode.
 -- Assumes nothing.
 use borrow.Author.Needs.{needs}
 use mathlib.Core.Path.{_∙_, ap}
 use Rattle.columns.specs.Intake.{tablesAnswer, tablesLeft}
 use Rattle.columns.specs.declared.intake.Intake.{Intake}
 use Rattle.capi.specs.IntakeLaws.{passed, tables-there}
-use Rattle.capi.proofs.intake.setup_tables.Statement.{statement}
-use Rattle.capi.proofs.intake.setup_tables.Tie as tie
+use Rattle.capi.proofs.intake.kinchoyu_tables.Statement.{statement}
+use Rattle.capi.proofs.intake.kinchoyu_tables.Tie as tie
 
 decode-state-requires : tie.Need-decode-state-requires
 decode-state-requires c κs = search needs
@@ -32,8 +32,8 @@ returns c =
     let k = passed (λ (s : Intake). tablesAnswer s (a .piece .now) (a .tables .now)) (a .state .now) _ _ _ _ e (t .0) (g .0) (g .1) (tables-there _ _ _ e _ _ (t .0)) in
     (k .0, (k .1, t .1 ∙ ap (λ (s : Intake). tablesLeft s (a .piece .now) (a .tables .now)) e))
 
-pub setup-tables-spec : {M : Type 1} → statement M
-setup-tables-spec =
+pub kinchoyu-tables-spec : {M : Type 1} → statement M
+kinchoyu-tables-spec =
     tie.close
     (tie.spec
     decode-state-requires

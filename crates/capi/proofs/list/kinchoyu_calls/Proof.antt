@@ -1,11 +1,11 @@
--- `list::setup_calls` meets its contract: the list is run from the state that the words encode, which are written where they are as many as a state has.
+-- `list::kinchoyu_calls` meets its contract: the list is run from the state that the words encode, which are written where they are as many as a state has.
 -- Assumes nothing.
 use borrow.Author.Needs.{needs}
 use mathlib.Core.Path.{_∙_}
 use Rattle.columns.specs.Intake.{storeOf}
 use Rattle.capi.specs.CallsLaws.{list-given, list-kept, list-ran}
-use Rattle.capi.proofs.list.setup_calls.Statement.{statement}
-use Rattle.capi.proofs.list.setup_calls.Tie as tie
+use Rattle.capi.proofs.list.kinchoyu_calls.Statement.{statement}
+use Rattle.capi.proofs.list.kinchoyu_calls.Tie as tie
 
 decode-state-requires : tie.Need-decode-state-requires
 decode-state-requires c κs = search needs
@@ -68,8 +68,8 @@ returns-2 c =
     let k = list-ran (a .state .now) (a .list .now) (a .numbers .now) (storeOf (a .constants .now) (a .copies .now) (a .scratch .now) (a .tables .now)) _ _ _ _ _ e (g .1 ∙ list-given _ _ (c .before .before .before .before .if1 .left)) (r .0) (r .1 .0) (r .1 .1) in
     (g .0 ∙ k .0, k .1)
 
-pub setup-calls-spec : {M : Type 1} → statement M
-setup-calls-spec =
+pub kinchoyu-calls-spec : {M : Type 1} → statement M
+kinchoyu-calls-spec =
     tie.close
     (tie.spec
     decode-state-requires
