@@ -1,6 +1,7 @@
 //! The exported functions as C sees them (`include/kinchoyu.h`): a slice is pointer and length.
+#![allow(unsafe_code)]
 
-#[link(name = "capi", kind = "static")]
+#[link(name = "kinchoyu", kind = "static")]
 extern "C" {
     pub fn kinchoyu_plan_words() -> u64;
     pub fn kinchoyu_state_words() -> u64;
@@ -99,6 +100,8 @@ extern "C" {
     pub fn kinchoyu_run(
         listing: *const u64,
         listing_length: usize,
+        plan: *mut u64,
+        plan_length: usize,
         constants: *mut u64,
         constants_length: usize,
         copies: *mut u64,

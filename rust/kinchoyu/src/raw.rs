@@ -3,6 +3,7 @@
 //!
 //! Rust's references are all that the library asks of a slice: it may be read or written for its
 //! whole length, and no written one overlaps another.
+#![allow(unsafe_code)]
 use crate::c;
 
 /// How many words a plan has.
@@ -196,6 +197,7 @@ pub fn calls(
 /// A whole listing in one call.
 pub fn run(
     listing: &[u64],
+    plan: &mut [u64],
     constants: &mut [u64],
     copies: &mut [u64],
     scratch: &mut [u64],
@@ -206,6 +208,8 @@ pub fn run(
         c::kinchoyu_run(
             listing.as_ptr(),
             listing.len(),
+            plan.as_mut_ptr(),
+            plan.len(),
             constants.as_mut_ptr(),
             constants.len(),
             copies.as_mut_ptr(),
