@@ -49,7 +49,9 @@ static void null_where_the_length_is_0(void)
 {
     static const uint64_t parameters[] = {1, 1, 0, 0, 0, 0, 0, 0}, gates[] = {1, 0, 0};
     static const uint64_t row[] = {0, 0}, cell[] = {KINCHOYU_PLACEHOLDER};
-    static const uint64_t listing[] = {8, 1, 1, 0, 0, 0, 0, 0, 0, 1, 1, 0, 0, 1, 0, 0, 0, 1, KINCHOYU_PLACEHOLDER, 0};
+    static const uint64_t listing[] = {8, 1, 1, 0, 0, 0, 0, 0, 0, /* parameters */
+                                       1, 1, 0, 0, 1, 0, 0, 0,     /* gates, rows, S words */
+                                       1, KINCHOYU_PLACEHOLDER, 0}; /* cells, tables */
     static const uint64_t finish[] = {KINCHOYU_FINISH, 0};
     uint64_t copies[1], number[1];
 
@@ -112,14 +114,17 @@ static void deepest(uint64_t made_up[KINCHOYU_PLAN_WORDS])
 
 #define N 256
 #define C 2
-#define COLUMNS constants, WORDS(constants), copies, WORDS(copies), scratch, WORDS(scratch), tables, WORDS(tables)
+#define COLUMNS \
+    constants, WORDS(constants), copies, WORDS(copies), scratch, WORDS(scratch), tables, WORDS(tables)
 
 /* Every call: 128 gates, S words, tables in mode 4. */
 static void every_call(uint64_t first_degree, uint64_t step)
 {
     static uint64_t constants[48 * N], copies[C * N], scratch[2 * N], tables[2 * N], numbers[5];
     static uint64_t gates[3 * KINCHOYU_MOST_GATES], rows[2 * N], s_words[N], cells[C * N];
-    static uint64_t listing[8 + 3 * KINCHOYU_MOST_GATES + 2 * N + N + C * N + 3 + 6], list[2 * N + N + C * N + 3 + 10];
+    /* the words of the sections, with a count before each; those of the calls, with two */
+    static uint64_t listing[8 + WORDS(gates) + WORDS(rows) + WORDS(s_words) + WORDS(cells) + 3 + 6];
+    static uint64_t list[WORDS(rows) + WORDS(s_words) + WORDS(cells) + 3 + 10];
     static const uint64_t parameters[] = {N, C, 16, 1, N, 4, 1, 1}, table[] = {1, 1, 9};
     const struct {
         const uint64_t *words;
