@@ -1,7 +1,7 @@
 /* The worked circuit of document 01 from C: plans, opens, gives the sections and finishes, then
  * prints what the program `setup` prints for it.
  *
- *   cc -I include examples/caller.c target/staticlib/libcapi.a -o caller
+ *   cc -I include examples/caller.c target/staticlib/libkinchoyu.a -o caller
  */
 #include <inttypes.h>
 #include <stdio.h>
@@ -11,7 +11,7 @@
 
 #define WORDS(array) (sizeof(array) / sizeof((array)[0]))
 
-/* A buffer and how many words it has. */
+/* A buffer and how many words it has. One of no words may be NULL. */
 struct buffer {
     uint64_t *words;
     size_t length;
@@ -19,9 +19,8 @@ struct buffer {
 
 static struct buffer buffer(uint64_t length)
 {
-    /* one word more is asked for, so that no pointer is null */
-    struct buffer made = {calloc(length + 1, sizeof(uint64_t)), length};
-    if (made.words == NULL) {
+    struct buffer made = {length > 0 ? calloc(length, sizeof(uint64_t)) : NULL, length};
+    if (length > 0 && made.words == NULL) {
         exit(2);
     }
     return made;
@@ -31,7 +30,7 @@ static struct buffer buffer(uint64_t length)
 static void accepted(const char *call, uint64_t number)
 {
     if (number != 0) {
-        printf("%s: refused %" PRIu64 "\n", call, number);
+        printf("%s: refused %" PRIu64 ": %s\n", call, number, kinchoyu_refusal_text(number));
         exit(1);
     }
 }
@@ -50,17 +49,17 @@ static const uint64_t list[] = {
 /* Opens the columns, gives the rows, then the cells in two pieces and finishing as one list. */
 static void give(struct buffer plan, struct buffer constants, struct buffer copies)
 {
-    struct buffer state = buffer(setup_state_words());
+    struct buffer state = buffer(KINCHOYU_STATE_WORDS);
     struct buffer scratch = buffer(2 * parameters[4]), tables = buffer(0);
-    accepted("open", setup_open(plan.words, plan.length, state.words, state.length,
-                                constants.words, constants.length, copies.words, copies.length,
-                                scratch.words, scratch.length, tables.words, tables.length));
-    accepted("rows", setup_rows(state.words, state.length, rows, WORDS(rows),
-                                constants.words, constants.length));
+    accepted("open", kinchoyu_open(plan.words, plan.length, state.words, state.length,
+                                   constants.words, constants.length, copies.words, copies.length,
+                                   scratch.words, scratch.length, tables.words, tables.length));
+    accepted("rows", kinchoyu_rows(state.words, state.length, rows, WORDS(rows),
+                                   constants.words, constants.length));
     uint64_t numbers[3];
-    accepted("calls", setup_calls(state.words, state.length, list, WORDS(list), numbers, WORDS(numbers),
-                                  constants.words, constants.length, copies.words, copies.length,
-                                  scratch.words, scratch.length, tables.words, tables.length));
+    accepted("calls", kinchoyu_calls(state.words, state.length, list, WORDS(list), numbers, WORDS(numbers),
+                                     constants.words, constants.length, copies.words, copies.length,
+                                     scratch.words, scratch.length, tables.words, tables.length));
     for (size_t i = 0; i < WORDS(numbers); i++) {
         accepted("a call of the list", numbers[i]);
     }
@@ -84,7 +83,7 @@ static void print_columns(const char *name, struct buffer columns)
 static void print_path(struct buffer plan, uint64_t gate)
 {
     uint64_t path[2];
-    accepted("path", setup_path(plan.words, plan.length, gate, path, WORDS(path)));
+    accepted("path", kinchoyu_path(plan.words, plan.length, gate, path, WORDS(path)));
     printf("path %" PRIu64 "%s", gate, path[1] > 0 ? " " : "");
     for (uint64_t i = 0; i < path[1]; i++) {
         printf("%d", (int)(path[0] >> i & 1));
@@ -94,12 +93,12 @@ static void print_path(struct buffer plan, uint64_t gate)
 
 int main(void)
 {
-    struct buffer plan = buffer(setup_plan_words());
-    accepted("plan", setup_plan(parameters, WORDS(parameters), gates, WORDS(gates),
-                                plan.words, plan.length));
+    struct buffer plan = buffer(KINCHOYU_PLAN_WORDS);
+    accepted("plan", kinchoyu_plan(parameters, WORDS(parameters), gates, WORDS(gates),
+                                   plan.words, plan.length));
     uint64_t stats[3], id[2];
-    accepted("stats", setup_stats(plan.words, plan.length, stats, WORDS(stats)));
-    accepted("table_id", setup_table_id(plan.words, plan.length, id, WORDS(id)));
+    accepted("stats", kinchoyu_stats(plan.words, plan.length, stats, WORDS(stats)));
+    accepted("table_id", kinchoyu_table_id(plan.words, plan.length, id, WORDS(id)));
 
     /* K + S constant columns and C copy columns of N words */
     struct buffer constants = buffer((stats[1] + parameters[3]) * parameters[0]);

@@ -1,10 +1,13 @@
 -- The definitions on numerals.
 use mathlib.Core.List.{List, [], _∷_}
 use mathlib.Core.Path.{_≡_, refl}
+use mathlib.Core.Option.{bind}
 use Prim.Native.Nat.{ℕ}
 use Rattle.calls.specs.Encoded.{callsFrom}
+use Rattle.listing.specs.Listing.{off, read, records, section, sixSections}
 use Rattle.pieces.specs.Setting.{Store}
 use Rattle.capi.specs.Calls.{ranOver}
+use Rattle.capi.specs.Listed.{runCall, runLeft, runPlan}
 use Rattle.capi.specs.Planning.{planCall, planLeft, withRoom}
 
 -- 19 before 10, and 10 before 12
@@ -22,3 +25,9 @@ lists : (ws : List ℕ) (b : Store)
     → (ranOver ws (6 ∷ 0 ∷ []) [] b .answer .number ≡ 20) × (ranOver ws (5 ∷ 0 ∷ 1 ∷ 2 ∷ 0 ∷ []) [] b .answer .number ≡ 20) × (ranOver ws (5 ∷ 0 ∷ []) [] b .answer .number ≡ 10) × (ranOver ws [] [] b .answer .number ≡ 0)
 unfolding callsFrom
 lists ws b = (refl, refl, refl, refl)
+
+-- no listing is 20, also where the plan's slice is too short; a listing with a short slice is 10, and writes nothing
+listings : (b : Store)
+    → (runCall [] [] b ≡ 20) × (runCall (8 ∷ 1 ∷ 1 ∷ 0 ∷ 0 ∷ 0 ∷ 0 ∷ 0 ∷ 0 ∷ 0 ∷ 0 ∷ 0 ∷ 0 ∷ 0 ∷ []) (5 ∷ []) b ≡ 10) × (runPlan [] (5 ∷ []) b ≡ 5 ∷ []) × (runLeft [] [] b ≡ b)
+unfolding runCall runPlan runLeft read sixSections section records off bind
+listings b = (refl, refl, refl, refl)

@@ -2,8 +2,10 @@
 pub mod Planning
 pub mod Intake
 pub mod Calls
+pub mod Listed
 pub mod PlanningLaws
 pub mod Lengths
 pub mod IntakeLaws
 pub mod CallsLaws
+pub mod ListedLaws
 mod Examples

@@ -38,7 +38,7 @@ pub(crate) fn give_back(taken: Taken, state: &mut [u64]) -> u64
 // Opens the columns of a plan. 19, then 10 for the state, then 10 for the columns, then 9; the state
 // is then of zeros, where its slice has room.
 #[no_mangle]
-pub extern "C" fn setup_open(
+pub extern "C" fn kinchoyu_open(
     plan: &[u64],
     state: &mut [u64],
     constants: &mut [u64],
@@ -65,7 +65,7 @@ pub extern "C" fn setup_open(
 
 // Row records: gate, number of constants, constants. 19, 10, 12, 11, 13.
 #[no_mangle]
-pub extern "C" fn setup_rows(state: &mut [u64], piece: &[u64], constants: &mut [u64]) -> u64
+pub extern "C" fn kinchoyu_rows(state: &mut [u64], piece: &[u64], constants: &mut [u64]) -> u64
     ensures { λ r. ⌜ r ≡ rowsAnswer (intakeOf (now (state .entry))) (now (piece .entry)) (now (constants .entry)) .number ⌝ }
     ensures { λ _. ⌜ now (state .exit) ≡ stateAfter (rowsAnswer (intakeOf (now (state .entry))) (now (piece .entry)) (now (constants .entry))) (now (state .entry)) ⌝ }
     ensures { λ _. ⌜ now (constants .exit) ≡ rowsLeft (intakeOf (now (state .entry))) (now (piece .entry)) (now (constants .entry)) ⌝ }
@@ -76,7 +76,7 @@ pub extern "C" fn setup_rows(state: &mut [u64], piece: &[u64], constants: &mut [
 
 // Words of the specialised constant columns, column by column. 19, 10, 13, 11.
 #[no_mangle]
-pub extern "C" fn setup_s_words(state: &mut [u64], piece: &[u64], constants: &mut [u64]) -> u64
+pub extern "C" fn kinchoyu_s_words(state: &mut [u64], piece: &[u64], constants: &mut [u64]) -> u64
     ensures { λ r. ⌜ r ≡ sWordsAnswer (intakeOf (now (state .entry))) (now (piece .entry)) (now (constants .entry)) .number ⌝ }
     ensures { λ _. ⌜ now (state .exit) ≡ stateAfter (sWordsAnswer (intakeOf (now (state .entry))) (now (piece .entry)) (now (constants .entry))) (now (state .entry)) ⌝ }
     ensures { λ _. ⌜ now (constants .exit) ≡ sWordsLeft (intakeOf (now (state .entry))) (now (piece .entry)) (now (constants .entry)) ⌝ }
@@ -87,7 +87,7 @@ pub extern "C" fn setup_s_words(state: &mut [u64], piece: &[u64], constants: &mu
 
 // Cell words of the copy columns, column by column. 19, 10, 13, 14.
 #[no_mangle]
-pub extern "C" fn setup_cells(
+pub extern "C" fn kinchoyu_cells(
     state: &mut [u64],
     piece: &[u64],
     copies: &mut [u64],
@@ -103,7 +103,7 @@ pub extern "C" fn setup_cells(
 
 // Table records: width, rows, contents row by row. 19, 10, 15, 11.
 #[no_mangle]
-pub extern "C" fn setup_tables(state: &mut [u64], piece: &[u64], tables: &mut [u64]) -> u64
+pub extern "C" fn kinchoyu_tables(state: &mut [u64], piece: &[u64], tables: &mut [u64]) -> u64
     ensures { λ r. ⌜ r ≡ tablesAnswer (intakeOf (now (state .entry))) (now (piece .entry)) (now (tables .entry)) .number ⌝ }
     ensures { λ _. ⌜ now (state .exit) ≡ stateAfter (tablesAnswer (intakeOf (now (state .entry))) (now (piece .entry)) (now (tables .entry))) (now (state .entry)) ⌝ }
     ensures { λ _. ⌜ now (tables .exit) ≡ tablesLeft (intakeOf (now (state .entry))) (now (piece .entry)) (now (tables .entry)) ⌝ }
@@ -114,7 +114,7 @@ pub extern "C" fn setup_tables(state: &mut [u64], piece: &[u64], tables: &mut [u
 
 // Finishing; scratch is read alone. 19, 10, 16, 17, 18.
 #[no_mangle]
-pub extern "C" fn setup_finish(state: &mut [u64], copies: &mut [u64], scratch: &[u64]) -> u64
+pub extern "C" fn kinchoyu_finish(state: &mut [u64], copies: &mut [u64], scratch: &[u64]) -> u64
     ensures { λ r. ⌜ r ≡ finishAnswer (intakeOf (now (state .entry))) (cols (now (copies .entry)) (now (scratch .entry))) .number ⌝ }
     ensures { λ _. ⌜ now (state .exit) ≡ stateAfter (finishAnswer (intakeOf (now (state .entry))) (cols (now (copies .entry)) (now (scratch .entry)))) (now (state .entry)) ⌝ }
     ensures { λ _. ⌜ now (copies .exit) ≡ finishLeft (intakeOf (now (state .entry))) (cols (now (copies .entry)) (now (scratch .entry))) ⌝ }

@@ -12,7 +12,7 @@ pub mod planning;
 
 // How many words a plan has.
 #[no_mangle]
-pub extern "C" fn setup_plan_words() -> u64
+pub extern "C" fn kinchoyu_plan_words() -> u64
     ensures { λ r. ⌜ r ≡ planLength ⌝ }
 {
     PLAN_WORDS as u64
@@ -20,7 +20,7 @@ pub extern "C" fn setup_plan_words() -> u64
 
 // How many words a state has.
 #[no_mangle]
-pub extern "C" fn setup_state_words() -> u64
+pub extern "C" fn kinchoyu_state_words() -> u64
     ensures { λ r. ⌜ r ≡ stateLength ⌝ }
 {
     STATE_WORDS as u64

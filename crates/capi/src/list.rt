@@ -12,7 +12,7 @@ use encoding::encoding::decode_state;
 // and the words; those of a finishing are not read. Each call's number goes to `numbers`. 20 for a list that is
 // cut short or has another kind, then 10 for the numbers; both write nothing. Else 0, whatever the calls' numbers are.
 #[no_mangle]
-pub extern "C" fn setup_calls(
+pub extern "C" fn kinchoyu_calls(
     state: &mut [u64],
     list: &[u64],
     numbers: &mut [u64],

@@ -147,14 +147,16 @@ pub fn calls(
     }
 }
 
-/// A refused listing leaves every word as it was.
+/// 20, 10 for the plan, then the circuit's own; a refused listing leaves the columns as they were
+/// and a plan of zeros.
 pub fn run(
     listing: &[u64],
-    constants: &mut [u64],
-    copies: &mut [u64],
-    scratch: &mut [u64],
-    tables: &mut [u64],
+    plan: &mut [u64],
+    [constants, copies, scratch, tables]: [&mut [u64]; 4],
 ) -> u64 {
+    if plan.len() < PLAN_WORDS {
+        return if model::listing::sections(listing).is_none() { 20 } else { 10 };
+    }
     let mut buffers = Buffers {
         constants: constants.to_vec(),
         copies: copies.to_vec(),
@@ -162,8 +164,12 @@ pub fn run(
         tables: tables.to_vec(),
     };
     match model::run_listing(listing, &mut buffers) {
-        Err(number) => number,
-        Ok(_) => {
+        Err(number) => {
+            hand(&plan_words(&Plan::zero()), plan);
+            number
+        }
+        Ok((made, _)) => {
+            hand(&plan_words(&made), plan);
             constants.copy_from_slice(&buffers.constants);
             copies.copy_from_slice(&buffers.copies);
             scratch.copy_from_slice(&buffers.scratch);

@@ -85,7 +85,7 @@ fn by_library(call: Call, lent: Lent) -> u64 {
         Call::Tables(piece) => raw::tables(state, piece, tables),
         Call::Finish => raw::finish(state, copies, scratch),
         Call::Calls(list) => raw::calls(state, list, numbers, constants, copies, scratch, tables),
-        Call::Run(listing) => raw::run(listing, constants, copies, scratch, tables),
+        Call::Run(listing) => raw::run(listing, plan, constants, copies, scratch, tables),
     }
 }
 
@@ -106,7 +106,7 @@ fn by_model(call: Call, lent: Lent) -> u64 {
         Call::Calls(list) => {
             expected::calls(state, list, numbers, [constants, copies, scratch, tables])
         }
-        Call::Run(listing) => expected::run(listing, constants, copies, scratch, tables),
+        Call::Run(listing) => expected::run(listing, plan, [constants, copies, scratch, tables]),
     }
 }
 

@@ -1,10 +1,11 @@
 //! A circuit as one listing, after it was finished piece by piece; and listings that are not whole,
 //! or have a fault in one place.
 use crate::circuit::Circuit;
+use crate::encoding::PLAN_WORDS;
 use crate::figures::Figures;
 use crate::random::Random;
 use crate::script::accepted;
-use crate::sides::{Call, Sides, CONSTANTS, NAMES};
+use crate::sides::{junk, Call, Sides, CONSTANTS, NAMES, PLAN};
 use crate::strays::other;
 
 /// A listing cut, lengthened, or with one word changed; the words near its start hold the most
@@ -27,7 +28,7 @@ fn changed(r: &mut Random, listing: &[u64]) -> Vec<u64> {
     words
 }
 
-/// The whole listing on fresh junk: the columns are those that the pieces left.
+/// The whole listing on fresh junk: plan and columns are those that the pieces left.
 fn same(
     r: &mut Random,
     sides: &Sides,
@@ -37,9 +38,12 @@ fn same(
 ) -> Result<(), String> {
     let mut aside = sides.clone();
     aside.allocate(r, named);
+    aside.library[PLAN] = junk(r, PLAN_WORDS + 3);
+    aside.model[PLAN] = aside.library[PLAN].clone();
+    aside.lent[PLAN] += r.within(0, 3) as usize;
     accepted(&mut aside, figures, Call::Run(listing))?;
-    for (buffer, length) in (CONSTANTS..).zip(named) {
-        let length = length as usize;
+    let columns = (CONSTANTS..).zip(named.map(|length| length as usize));
+    for (buffer, length) in columns.chain([(PLAN, PLAN_WORDS)]) {
         if aside.library[buffer][..length] != sides.library[buffer][..length] {
             return Err(format!("pieces and listing differ: {}", NAMES[buffer]));
         }
@@ -61,7 +65,9 @@ pub fn run(
     for _ in 0..3 {
         let words = changed(r, &listing);
         aside.make(figures, Call::Run(&words))?;
+        aside.make_short(r, figures, Call::Run(&words), PLAN, PLAN_WORDS)?;
     }
+    aside.make_short(r, figures, Call::Run(&listing), PLAN, PLAN_WORDS)?;
     let short = r.within(0, 3) as usize;
     aside.make_short(r, figures, Call::Run(&listing), CONSTANTS + short, named[short] as usize)
 }

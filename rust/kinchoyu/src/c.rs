@@ -1,10 +1,11 @@
 //! The exported functions as C sees them (`include/kinchoyu.h`): a slice is pointer and length.
+#![allow(unsafe_code)]
 
-#[link(name = "capi", kind = "static")]
+#[link(name = "kinchoyu", kind = "static")]
 extern "C" {
-    pub fn setup_plan_words() -> u64;
-    pub fn setup_state_words() -> u64;
-    pub fn setup_plan(
+    pub fn kinchoyu_plan_words() -> u64;
+    pub fn kinchoyu_state_words() -> u64;
+    pub fn kinchoyu_plan(
         parameters: *const u64,
         parameters_length: usize,
         gates: *const u64,
@@ -12,27 +13,27 @@ extern "C" {
         plan: *mut u64,
         plan_length: usize,
     ) -> u64;
-    pub fn setup_path(
+    pub fn kinchoyu_path(
         plan: *const u64,
         plan_length: usize,
         gate: u64,
         out: *mut u64,
         out_length: usize,
     ) -> u64;
-    pub fn setup_table_id(
+    pub fn kinchoyu_table_id(
         plan: *const u64,
         plan_length: usize,
         out: *mut u64,
         out_length: usize,
     ) -> u64;
-    pub fn setup_stats(
+    pub fn kinchoyu_stats(
         plan: *const u64,
         plan_length: usize,
         out: *mut u64,
         out_length: usize,
     ) -> u64;
-    pub fn setup_label(n: u64, c: u64, cell: u64, out: *mut u64, out_length: usize) -> u64;
-    pub fn setup_open(
+    pub fn kinchoyu_label(n: u64, c: u64, cell: u64, out: *mut u64, out_length: usize) -> u64;
+    pub fn kinchoyu_open(
         plan: *const u64,
         plan_length: usize,
         state: *mut u64,
@@ -46,7 +47,7 @@ extern "C" {
         tables: *mut u64,
         tables_length: usize,
     ) -> u64;
-    pub fn setup_rows(
+    pub fn kinchoyu_rows(
         state: *mut u64,
         state_length: usize,
         piece: *const u64,
@@ -54,7 +55,7 @@ extern "C" {
         constants: *mut u64,
         constants_length: usize,
     ) -> u64;
-    pub fn setup_s_words(
+    pub fn kinchoyu_s_words(
         state: *mut u64,
         state_length: usize,
         piece: *const u64,
@@ -62,7 +63,7 @@ extern "C" {
         constants: *mut u64,
         constants_length: usize,
     ) -> u64;
-    pub fn setup_cells(
+    pub fn kinchoyu_cells(
         state: *mut u64,
         state_length: usize,
         piece: *const u64,
@@ -72,7 +73,7 @@ extern "C" {
         scratch: *mut u64,
         scratch_length: usize,
     ) -> u64;
-    pub fn setup_tables(
+    pub fn kinchoyu_tables(
         state: *mut u64,
         state_length: usize,
         piece: *const u64,
@@ -80,7 +81,7 @@ extern "C" {
         tables: *mut u64,
         tables_length: usize,
     ) -> u64;
-    pub fn setup_calls(
+    pub fn kinchoyu_calls(
         state: *mut u64,
         state_length: usize,
         list: *const u64,
@@ -96,9 +97,11 @@ extern "C" {
         tables: *mut u64,
         tables_length: usize,
     ) -> u64;
-    pub fn setup_run(
+    pub fn kinchoyu_run(
         listing: *const u64,
         listing_length: usize,
+        plan: *mut u64,
+        plan_length: usize,
         constants: *mut u64,
         constants_length: usize,
         copies: *mut u64,
@@ -108,7 +111,7 @@ extern "C" {
         tables: *mut u64,
         tables_length: usize,
     ) -> u64;
-    pub fn setup_finish(
+    pub fn kinchoyu_finish(
         state: *mut u64,
         state_length: usize,
         copies: *mut u64,

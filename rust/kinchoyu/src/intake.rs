@@ -4,6 +4,7 @@ use crate::columns::Lent;
 use crate::plan::Plan;
 use crate::raw;
 use crate::refusal::{answer, Refusal};
+use std::fmt;
 
 /// A cell of a copy column.
 #[derive(Clone, Copy, Debug, PartialEq, Eq)]
@@ -25,11 +26,28 @@ impl Cell {
     }
 }
 
+/// A variable's index, or none for a placeholder.
+impl From<Option<u64>> for Cell {
+    fn from(variable: Option<u64>) -> Cell {
+        variable.map_or(Cell::Placeholder, Cell::Variable)
+    }
+}
+
 /// An open circuit and the buffers lent to it. A refused call writes no word of them and leaves
 /// the intake as it was. Pieces hold whole records, may be empty, and sections may alternate.
 pub struct Intake<'a> {
     state: Vec<u64>,
     lent: Lent<'a>,
+}
+
+/// The lengths of what it holds.
+impl fmt::Debug for Intake<'_> {
+    fn fmt(&self, f: &mut fmt::Formatter<'_>) -> fmt::Result {
+        f.debug_struct("Intake")
+            .field("state", &self.state.len())
+            .field("lent", &self.lent)
+            .finish()
+    }
 }
 
 impl<'a> Intake<'a> {

@@ -1,10 +1,22 @@
-//! The setup stage over the proved static library `capi`, for Rust: a circuit is planned, its
-//! columns are opened, its sections come in pieces, and finishing closes the cycles.
+//! The setup stage of a PLONK prover over the Goldilocks field: a circuit is planned, its columns
+//! are opened, its sections come in pieces, and finishing closes the cycles. The work is done by the
+//! static library `libkinchoyu.a`, in which every function is proved; this crate has types for it.
 //!
-//! Every function takes any arguments. What document 01 turns down comes back as a [`Refusal`]
-//! with its number, and then no word was written.
+//! # Use
 //!
-//! The worked circuit of document 01:
+//! `tools/library` in the repository proves the library and makes it, for x86-64. Then, in a
+//! program's `Cargo.toml`, with the way to the repository:
+//!
+//! ```toml
+//! [dependencies]
+//! kinchoyu = { path = "../kinchoyu/rust/kinchoyu" }
+//! ```
+//!
+//! The library is taken from the repository's `target/staticlib`, or from the folder that the
+//! variable `KINCHOYU_LIB_DIR` names while the program is built. It goes into the program; nothing
+//! else is linked, and the crate depends on no other.
+//!
+//! # The worked circuit of document 01
 //!
 //! ```
 //! use kinchoyu::{Cell, Columns, Gate, Intake, Lookup, Parameters, Plan, Refusal};
@@ -30,10 +42,23 @@
 //! intake.cells_from([Cell::Placeholder])?;
 //! intake.finish()?;
 //!
-//! assert!(columns.constants().eq([[1, 0], [5, 0]]));
-//! assert!(columns.copies().eq([[1, 7], [18446744069414584320, 18446744069414584314]]));
+//! assert!(columns.constant_columns().eq([[1, 0], [5, 0]]));
+//! assert_eq!(columns.copies(), [1, 7, 18446744069414584320, 18446744069414584314]);
 //! # Ok::<(), Refusal>(())
 //! ```
+//!
+//! The folder `examples/` has a whole program, with lookups.
+//!
+//! # What holds of every call
+//!
+//! - Every function takes any arguments. What document 01 turns down comes back as a [`Refusal`]
+//!   with its number, and then no word of the columns was written.
+//! - The library allocates nothing and keeps nothing between calls; this crate allocates what
+//!   [`Columns`], plans and states hold.
+//! - A call needs up to [`STACK_BYTES`] of stack beside the caller's own: the main thread's and
+//!   `std::thread`'s 2 MiB are enough.
+//! - Memory is safe: `unsafe` stands in [`raw`] alone, which passes slices to the library.
+#![deny(missing_docs, missing_debug_implementations, unsafe_code)]
 mod c;
 mod calls;
 mod columns;
@@ -47,7 +72,13 @@ mod refusal;
 pub use calls::Calls;
 pub use columns::{Columns, Lengths, Lent};
 pub use intake::{Cell, Intake};
-pub use listing::{run, run_in};
+pub use listing::{listing_from_bytes, run, run_in};
 pub use parameters::{Gate, Lookup, Parameters};
 pub use plan::{label, Path, Plan, Stats};
 pub use refusal::Refusal;
+
+/// p = 2^64 − 2^32 + 1; words of rows, S words and tables are below it.
+pub const P: u64 = 18446744069414584321;
+
+/// A thread whose stack has so many bytes may make every call.
+pub const STACK_BYTES: usize = 229376;

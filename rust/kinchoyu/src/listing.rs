@@ -2,12 +2,21 @@
 use crate::columns::{Columns, Lent};
 use crate::plan::Plan;
 use crate::raw;
-use crate::refusal::{answer, Refusal};
+use crate::refusal::Refusal;
 
-/// Runs a listing in buffers that a caller lends. Refusal 20 where it is no whole listing, then
-/// those of planning, opening, the sections and finishing; a refused one writes no word.
-pub fn run_in(listing: &[u64], lent: Lent) -> Result<(), Refusal> {
-    answer(raw::run(listing, lent.constants, lent.copies, lent.scratch, lent.tables))
+/// The words of a listing kept as bytes, eight to a word, the least first: as the program `setup`
+/// reads it. Refusal 20 where the last word is cut.
+pub fn listing_from_bytes(bytes: &[u8]) -> Result<Vec<u64>, Refusal> {
+    let words = bytes.chunks(8).map(|word| word.try_into().map(u64::from_le_bytes));
+    words.collect::<Result<_, _>>().map_err(|_| Refusal::Listing)
+}
+
+/// Runs a listing in buffers that a caller lends; gives its plan. Refusal 20 where it is no whole
+/// listing, then those of planning, opening, the sections and finishing; a refused one writes no
+/// word.
+pub fn run_in(listing: &[u64], lent: Lent<'_>) -> Result<Plan, Refusal> {
+    let Lent { constants, copies, scratch, tables } = lent;
+    Plan::handed(|plan| raw::run(listing, plan, constants, copies, scratch, tables))
 }
 
 /// The plan of a listing, which is not tested beyond its gates.
@@ -17,7 +26,7 @@ fn plan_of(listing: &[u64]) -> Result<Plan, Refusal> {
     let (count, rest) = rest.split_first().ok_or(Refusal::Listing)?;
     let words = count.checked_mul(3).ok_or(Refusal::Listing)?;
     let (gates, _) = rest.split_at_checked(words as usize).ok_or(Refusal::Listing)?;
-    Plan::planned(parameters, gates)
+    Plan::handed(|plan| raw::plan(parameters, gates, plan))
 }
 
 /// Runs a listing in buffers of just its size; gives its plan and its columns.
@@ -33,13 +42,13 @@ fn plan_of(listing: &[u64]) -> Result<Plan, Refusal> {
 /// ];
 /// let (plan, columns) = kinchoyu::run(&listing)?;
 /// assert_eq!(plan.stats().constants, 2);
-/// assert!(columns.constants().eq([[1, 0], [5, 0]]));
+/// assert_eq!(columns.constants(), [1, 0, 5, 0]);
 /// assert_eq!(kinchoyu::run(&listing[1..]), Err(kinchoyu::Refusal::Listing));
 /// # Ok::<(), kinchoyu::Refusal>(())
 /// ```
 pub fn run(listing: &[u64]) -> Result<(Plan, Columns), Refusal> {
-    let plan = match plan_of(listing) {
-        Ok(plan) => plan,
+    let mut columns = match plan_of(listing) {
+        Ok(plan) => Columns::new(&plan),
         // a listing that is not whole is refused as such before its plan is
         Err(refusal) => {
             let none =
@@ -47,7 +56,6 @@ pub fn run(listing: &[u64]) -> Result<(Plan, Columns), Refusal> {
             return Err(run_in(listing, none).err().unwrap_or(refusal));
         }
     };
-    let mut columns = Columns::new(&plan);
-    run_in(listing, columns.lend())?;
+    let plan = run_in(listing, columns.lend())?;
     Ok((plan, columns))
 }

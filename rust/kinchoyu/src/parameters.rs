@@ -1,13 +1,42 @@
 //! What a plan is made from: parameters, lookup mode and gates.
 
 /// How lookups are made, in the order of document 01.
+///
+/// W, the lookup width, is 1 to 16.
 #[derive(Clone, Copy, Debug, PartialEq, Eq)]
+#[non_exhaustive]
 pub enum Lookup {
+    /// No lookups.
     None,
-    TableIdAsVariable { width: u64, share: bool },
-    TableIdAsConstant { width: u64, share: bool },
-    SpecialisedAsVariable { width: u64, share: bool },
-    SpecialisedAsConstant { width: u64, share: bool },
+    /// The table id is a variable, in a column under copy permutation.
+    TableIdAsVariable {
+        /// W.
+        width: u64,
+        /// Whether tables share the id column.
+        share: bool,
+    },
+    /// The table id is the lookup gate's one constant. The share flag is set.
+    TableIdAsConstant {
+        /// W.
+        width: u64,
+        /// Whether tables share the id column.
+        share: bool,
+    },
+    /// Lookups have columns of their own, and the table id is a variable there.
+    SpecialisedAsVariable {
+        /// W.
+        width: u64,
+        /// Whether tables share the id column.
+        share: bool,
+    },
+    /// Lookups have columns of their own, and the table id stands in the first specialised constant
+    /// column. The share flag is set, and S is at least 1.
+    SpecialisedAsConstant {
+        /// W.
+        width: u64,
+        /// Whether tables share the id column.
+        share: bool,
+    },
 }
 
 impl Lookup {
@@ -53,6 +82,7 @@ pub struct Parameters {
     pub specialised: u64,
     /// V, the variables: 0 to 1,048,576.
     pub variables: u64,
+    /// Lookup mode, W and share flag.
     pub lookup: Lookup,
 }
 
@@ -74,9 +104,15 @@ impl Parameters {
 
 /// A gate of the list that a plan is made from.
 #[derive(Clone, Copy, Debug, PartialEq, Eq)]
+#[non_exhaustive]
 pub enum Gate {
-    /// Degree 1 to 64, constants 0 to 16.
-    Evaluated { degree: u64, constants: u64 },
+    /// A gate whose terms are evaluated.
+    Evaluated {
+        /// 1 to 64.
+        degree: u64,
+        /// How many constants a row of it has at the most: 0 to 16.
+        constants: u64,
+    },
     /// A marker with selector.
     Marker,
     /// A marker without selector.

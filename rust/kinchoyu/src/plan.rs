@@ -13,17 +13,23 @@ pub struct Plan {
 /// D, K and F: the greatest degree at depth, the greatest constants plus depth, and the factor
 /// of the quotient.
 #[derive(Clone, Copy, Debug, PartialEq, Eq)]
+#[non_exhaustive]
 pub struct Stats {
+    /// D.
     pub degree: u64,
+    /// K; there are K + S constant columns.
     pub constants: u64,
+    /// F.
     pub factor: u64,
 }
 
 /// A gate's path from the root: 1 is left, 0 is right.
 #[derive(Clone, Copy, Debug, PartialEq, Eq)]
+#[non_exhaustive]
 pub struct Path {
     /// Bit i, from the least, is step i.
     pub bits: u64,
+    /// How many steps there are.
     pub length: u64,
 }
 
@@ -45,12 +51,13 @@ impl Plan {
     /// Plans for these parameters and gates. Refusals 1 to 8.
     pub fn new(parameters: &Parameters, gates: &[Gate]) -> Result<Plan, Refusal> {
         let gates: Vec<u64> = gates.iter().flat_map(|gate| gate.words()).collect();
-        Plan::planned(&parameters.words(), &gates)
+        Plan::handed(|plan| raw::plan(&parameters.words(), &gates, plan))
     }
 
-    pub(crate) fn planned(parameters: &[u64], gates: &[u64]) -> Result<Plan, Refusal> {
+    /// The plan that a call hands back, unless it is refused.
+    pub(crate) fn handed(call: impl FnOnce(&mut [u64]) -> u64) -> Result<Plan, Refusal> {
         let mut words = vec![0; raw::plan_words()];
-        answer(raw::plan(parameters, gates, &mut words))?;
+        answer(call(&mut words))?;
         Ok(Plan { words })
     }
 

@@ -3,25 +3,26 @@
 //!
 //! Rust's references are all that the library asks of a slice: it may be read or written for its
 //! whole length, and no written one overlaps another.
+#![allow(unsafe_code)]
 use crate::c;
 
 /// How many words a plan has.
 pub fn plan_words() -> usize {
     // SAFETY: it takes nothing.
-    unsafe { c::setup_plan_words() as usize }
+    unsafe { c::kinchoyu_plan_words() as usize }
 }
 
 /// How many words a state has.
 pub fn state_words() -> usize {
     // SAFETY: it takes nothing.
-    unsafe { c::setup_state_words() as usize }
+    unsafe { c::kinchoyu_state_words() as usize }
 }
 
 /// The plan for eight parameter words and the gates' words, three each.
 pub fn plan(parameters: &[u64], gates: &[u64], plan: &mut [u64]) -> u64 {
     // SAFETY: pointers and lengths of references, as said above.
     unsafe {
-        c::setup_plan(
+        c::kinchoyu_plan(
             parameters.as_ptr(),
             parameters.len(),
             gates.as_ptr(),
@@ -35,25 +36,25 @@ pub fn plan(parameters: &[u64], gates: &[u64], plan: &mut [u64]) -> u64 {
 /// Bits and length of a gate's path; bit i, from the least, is step i from the root.
 pub fn path(plan: &[u64], gate: u64, out: &mut [u64]) -> u64 {
     // SAFETY: pointers and lengths of references, as said above.
-    unsafe { c::setup_path(plan.as_ptr(), plan.len(), gate, out.as_mut_ptr(), out.len()) }
+    unsafe { c::kinchoyu_path(plan.as_ptr(), plan.len(), gate, out.as_mut_ptr(), out.len()) }
 }
 
 /// The number of table-id columns, 0 or 1, and its index.
 pub fn table_id(plan: &[u64], out: &mut [u64]) -> u64 {
     // SAFETY: pointers and lengths of references, as said above.
-    unsafe { c::setup_table_id(plan.as_ptr(), plan.len(), out.as_mut_ptr(), out.len()) }
+    unsafe { c::kinchoyu_table_id(plan.as_ptr(), plan.len(), out.as_mut_ptr(), out.len()) }
 }
 
 /// D, K and F.
 pub fn stats(plan: &[u64], out: &mut [u64]) -> u64 {
     // SAFETY: pointers and lengths of references, as said above.
-    unsafe { c::setup_stats(plan.as_ptr(), plan.len(), out.as_mut_ptr(), out.len()) }
+    unsafe { c::kinchoyu_stats(plan.as_ptr(), plan.len(), out.as_mut_ptr(), out.len()) }
 }
 
 /// The label of the cell whose number is cN + r.
 pub fn label(n: u64, c: u64, cell: u64, out: &mut [u64]) -> u64 {
     // SAFETY: pointers and lengths of references, as said above.
-    unsafe { c::setup_label(n, c, cell, out.as_mut_ptr(), out.len()) }
+    unsafe { c::kinchoyu_label(n, c, cell, out.as_mut_ptr(), out.len()) }
 }
 
 /// Opens the columns of a plan.
@@ -67,7 +68,7 @@ pub fn open(
 ) -> u64 {
     // SAFETY: pointers and lengths of references, as said above.
     unsafe {
-        c::setup_open(
+        c::kinchoyu_open(
             plan.as_ptr(),
             plan.len(),
             state.as_mut_ptr(),
@@ -88,7 +89,7 @@ pub fn open(
 pub fn rows(state: &mut [u64], piece: &[u64], constants: &mut [u64]) -> u64 {
     // SAFETY: pointers and lengths of references, as said above.
     unsafe {
-        c::setup_rows(
+        c::kinchoyu_rows(
             state.as_mut_ptr(),
             state.len(),
             piece.as_ptr(),
@@ -103,7 +104,7 @@ pub fn rows(state: &mut [u64], piece: &[u64], constants: &mut [u64]) -> u64 {
 pub fn s_words(state: &mut [u64], piece: &[u64], constants: &mut [u64]) -> u64 {
     // SAFETY: pointers and lengths of references, as said above.
     unsafe {
-        c::setup_s_words(
+        c::kinchoyu_s_words(
             state.as_mut_ptr(),
             state.len(),
             piece.as_ptr(),
@@ -118,7 +119,7 @@ pub fn s_words(state: &mut [u64], piece: &[u64], constants: &mut [u64]) -> u64 {
 pub fn cells(state: &mut [u64], piece: &[u64], copies: &mut [u64], scratch: &mut [u64]) -> u64 {
     // SAFETY: pointers and lengths of references, as said above.
     unsafe {
-        c::setup_cells(
+        c::kinchoyu_cells(
             state.as_mut_ptr(),
             state.len(),
             piece.as_ptr(),
@@ -135,7 +136,7 @@ pub fn cells(state: &mut [u64], piece: &[u64], copies: &mut [u64], scratch: &mut
 pub fn tables(state: &mut [u64], piece: &[u64], tables: &mut [u64]) -> u64 {
     // SAFETY: pointers and lengths of references, as said above.
     unsafe {
-        c::setup_tables(
+        c::kinchoyu_tables(
             state.as_mut_ptr(),
             state.len(),
             piece.as_ptr(),
@@ -150,7 +151,7 @@ pub fn tables(state: &mut [u64], piece: &[u64], tables: &mut [u64]) -> u64 {
 pub fn finish(state: &mut [u64], copies: &mut [u64], scratch: &[u64]) -> u64 {
     // SAFETY: pointers and lengths of references, as said above.
     unsafe {
-        c::setup_finish(
+        c::kinchoyu_finish(
             state.as_mut_ptr(),
             state.len(),
             copies.as_mut_ptr(),
@@ -174,7 +175,7 @@ pub fn calls(
 ) -> u64 {
     // SAFETY: pointers and lengths of references, as said above.
     unsafe {
-        c::setup_calls(
+        c::kinchoyu_calls(
             state.as_mut_ptr(),
             state.len(),
             list.as_ptr(),
@@ -196,6 +197,7 @@ pub fn calls(
 /// A whole listing in one call.
 pub fn run(
     listing: &[u64],
+    plan: &mut [u64],
     constants: &mut [u64],
     copies: &mut [u64],
     scratch: &mut [u64],
@@ -203,9 +205,11 @@ pub fn run(
 ) -> u64 {
     // SAFETY: pointers and lengths of references, as said above.
     unsafe {
-        c::setup_run(
+        c::kinchoyu_run(
             listing.as_ptr(),
             listing.len(),
+            plan.as_mut_ptr(),
+            plan.len(),
             constants.as_mut_ptr(),
             constants.len(),
             copies.as_mut_ptr(),

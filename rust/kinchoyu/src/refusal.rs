@@ -1,68 +1,53 @@
 //! Why a call was turned down.
 use std::fmt;
 
-/// A refusal; its number is document 01's.
-#[derive(Clone, Copy, Debug, PartialEq, Eq, Hash, PartialOrd, Ord)]
-pub enum Refusal {
-    Parameter = 1,
-    ShareFlag,
-    GateCount,
-    GateRecord,
-    LookupGate,
-    NothingEvaluated,
-    Constants,
-    NoPlace,
-    NoLabels,
-    ShortBuffer,
-    NotAnElement,
-    RowRecord,
-    TooMany,
-    Variable,
-    Table,
-    Incomplete,
-    UnusedGate,
-    Scratch,
-    MadeUp,
-    Listing,
+/// The refusals, each with its number and its sentence: the variant's documentation and what it
+/// says of itself. `include/kinchoyu.h` has the same sentences.
+macro_rules! refusals {
+    ($($name:ident = $number:literal: $sentence:literal;)*) => {
+        /// A refusal; its number is document 01's.
+        #[derive(Clone, Copy, Debug, PartialEq, Eq, Hash, PartialOrd, Ord)]
+        #[non_exhaustive]
+        pub enum Refusal {
+            $(#[doc = concat!($number, ": ", $sentence, ".")] $name = $number,)*
+        }
+
+        /// Each refusal with its sentence, by rising number.
+        const ALL: &[(Refusal, &str)] = &[$((Refusal::$name, $sentence),)*];
+    };
 }
 
-use Refusal::*;
-
-/// Each refusal with its sentence, by rising number.
-const ALL: [(Refusal, &str); 20] = [
-    (Parameter, "a parameter, or a cell whose label is asked for, is outside its range"),
-    (ShareFlag, "the share flag is 0 in a lookup mode that needs it to be 1"),
-    (GateCount, "there are no gates, or more than 128, or not three words for each"),
-    (GateRecord, "a gate's kind, degree or number of constants is outside its range"),
-    (LookupGate, "the lookup gate is missing, or stands where it may not, or is the only gate"),
-    (NothingEvaluated, "there are several gates, none of which is evaluated or the lookup gate"),
-    (Constants, "a gate has more constants than are allowed"),
-    (NoPlace, "the gates find no place in a selector tree under any target"),
-    (NoLabels, "no representatives of the copy columns were found"),
-    (ShortBuffer, "a buffer is too short"),
-    (NotAnElement, "a word is not below p"),
-    (RowRecord, "a gate is not listed, or a row is cut short or has more constants than its gate"),
-    (TooMany, "there are more rows, S words or cells than the section takes"),
-    (Variable, "a cell names a variable that is not below V"),
-    (
-        Table,
-        "a table is cut short, has another width than W, is one too many or has rows past N, \
-         or there is no lookup",
-    ),
-    (Incomplete, "rows, S words or cells are missing"),
-    (UnusedGate, "a gate is in no row"),
-    (Scratch, "a scratch value is not below p, or a seen variable's first cell is outside"),
-    (MadeUp, "the plan or the state is made up, never opened, or finished"),
-    (
-        Listing,
-        "the input is no whole listing: a wrong parameter count, or words missing or left over",
-    ),
-];
+refusals! {
+    Parameter = 1: "a parameter, or a cell whose label is asked for, is outside its range";
+    ShareFlag = 2: "the share flag is 0 in a lookup mode that needs it to be 1";
+    GateCount = 3: "there are no gates, or more than 128, or not three words for each";
+    GateRecord = 4: "a gate's kind, degree or number of constants is outside its range";
+    LookupGate = 5: "the lookup gate is missing, or stands where it may not, or is the only gate";
+    NothingEvaluated = 6: "there are several gates, none of which is evaluated or the lookup gate";
+    Constants = 7: "a gate has more constants than are allowed";
+    NoPlace = 8: "the gates find no place in a selector tree under any target";
+    NoLabels = 9: "no representatives of the copy columns were found";
+    ShortBuffer = 10: "a buffer is too short";
+    NotAnElement = 11: "a word is not below p";
+    RowRecord = 12:
+        "a gate is not listed, or a row is cut short or has more constants than its gate";
+    TooMany = 13: "there are more rows, S words or cells than the section takes";
+    Variable = 14: "a cell names a variable that is not below V";
+    Table = 15:
+        "a table is cut short, has another width than W, is one too many or has rows past N, or there is no lookup";
+    Incomplete = 16: "rows, S words or cells are missing";
+    UnusedGate = 17: "a gate is in no row";
+    Scratch = 18:
+        "a scratch word is not below p, or a seen variable's first cell is outside the columns";
+    MadeUp = 19: "the plan or the state is made up, never opened, or finished";
+    Listing = 20:
+        "there are not eight parameters, or the words are no whole listing or no list of calls";
+}
 
 impl Refusal {
     /// All twenty, by rising number.
     pub fn all() -> impl Iterator<Item = Refusal> {
-        ALL.into_iter().map(|(refusal, _)| refusal)
+        ALL.iter().map(|(refusal, _)| *refusal)
     }
 
     /// The refusal of a number from 1 to 20.

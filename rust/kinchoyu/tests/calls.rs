@@ -36,10 +36,14 @@ fn columns_of_a_circuit_in_pieces() {
     intake.cells(&[0]).unwrap();
     intake.finish().unwrap();
     assert_eq!(intake.finish(), Err(Refusal::MadeUp));
-    assert!(columns.constants().eq([[6, 7, 0, 0], [1, 2, 3, 4]]));
-    assert!(columns.tables().eq([[1, 3, 5, 0], [2, 4, 6, 0], [1, 1, 3, 0]]));
+    assert!(columns.constant_columns().eq([[6, 7, 0, 0], [1, 2, 3, 4]]));
+    assert!(columns.table_columns().eq([[1, 3, 5, 0], [2, 4, 6, 0], [1, 1, 3, 0]]));
+    assert_eq!(columns.constants(), [6, 7, 0, 0, 1, 2, 3, 4]);
+    assert_eq!(columns.tables(), [1, 3, 5, 0, 2, 4, 6, 0, 1, 1, 3, 0]);
     let own: Vec<u64> = (0..4).map(|cell| label(4, 1, cell).unwrap()).collect();
-    assert!(columns.copies().eq([[own[2], own[1], own[0], own[3]]]));
+    assert!(columns.copy_columns().eq([[own[2], own[1], own[0], own[3]]]));
+    assert_eq!(columns.copies(), [own[2], own[1], own[0], own[3]]);
+    assert_eq!(columns.scratch().len(), 6);
 }
 
 #[test]
@@ -88,7 +92,8 @@ fn plans_and_states_are_kept_as_words() {
 fn what_is_asked_of_a_plan() {
     let plan = plan();
     assert_eq!(plan.parameters(), PARAMETERS);
-    assert_eq!(plan.stats(), Stats { degree: 2, constants: 1, factor: 1 });
+    let stats = plan.stats();
+    assert_eq!((stats.degree, stats.constants, stats.factor), (2, 1, 1));
     assert_eq!(plan.table_id(), Some(1));
     assert_eq!(plan.path(1).unwrap().to_string(), "");
     assert_eq!(plan.path(2), Err(Refusal::RowRecord));
@@ -125,7 +130,7 @@ fn a_listing_in_one_call() {
     let (plan, columns) = run(&listing(8, 1, [1, 1])).unwrap();
     assert_eq!(plan, Plan::new(&plan.parameters(), &[Gate::Marker]).unwrap());
     let own = [0, 1].map(|cell| label(1, 2, cell).unwrap());
-    assert!(columns.copies().eq([[own[1]], [own[0]]]));
+    assert!(columns.copy_columns().eq([[own[1]], [own[0]]]));
     assert_eq!(run(&listing(8, 1, [2, 0])), Err(Refusal::Variable));
     assert_eq!(run(&listing(8, 3, [0, 0])), Err(Refusal::Parameter));
     assert_eq!(run(&listing(9, 1, [0, 0])), Err(Refusal::Listing));
@@ -138,6 +143,32 @@ fn a_listing_in_one_call() {
         Lent { constants: &mut [], copies: &mut copies, scratch: &mut scratch, tables: &mut [] };
     assert_eq!(run_in(&listing(8, 1, [0, 0]), lent), Err(Refusal::ShortBuffer));
     assert_eq!((copies, scratch), ([7; 2], [7; 3]));
+    let mut scratch = [7; 5];
+    let lent =
+        Lent { constants: &mut [], copies: &mut copies, scratch: &mut scratch, tables: &mut [] };
+    assert_eq!(run_in(&listing(8, 1, [1, 1]), lent), Ok(plan));
+    assert_eq!((copies.as_slice(), scratch[4]), (columns.copies(), 7));
+}
+
+#[test]
+fn a_listing_from_bytes() {
+    let bytes: Vec<u8> = [8u64, 1 << 63].iter().flat_map(|word| word.to_le_bytes()).collect();
+    assert_eq!(listing_from_bytes(&bytes), Ok(vec![8, 1 << 63]));
+    assert_eq!(listing_from_bytes(&bytes[1..]), Err(Refusal::Listing));
+    assert_eq!(listing_from_bytes(&[]), Ok(vec![]));
+}
+
+#[test]
+fn every_call_of_a_circuit_runs_on_the_stack_that_is_named() {
+    let circuit = || {
+        let plan = plan();
+        let mut columns = Columns::new(&plan);
+        let mut intake = Intake::open(&plan, columns.lend()).unwrap();
+        fill(&mut intake).unwrap();
+        intake.cells(&[0]).unwrap();
+        intake.finish().unwrap();
+    };
+    std::thread::Builder::new().stack_size(STACK_BYTES).spawn(circuit).unwrap().join().unwrap();
 }
 
 #[test]

@@ -1,0 +1,226 @@
+/* What the header promises beside the proofs: its macros are what the functions answer; NULL may be
+ * passed with length 0 wherever a pointer is; every call runs in a thread with the stack that the
+ * header names.
+ *
+ *   calls [BYTES]     the thread's stack; KINCHOYU_STACK_BYTES if not given
+ */
+#include <pthread.h>
+#include <stdio.h>
+#include <stdlib.h>
+#include <string.h>
+
+#include "kinchoyu.h"
+
+#define WORDS(array) (sizeof(array) / sizeof((array)[0]))
+#define PLAN plan, KINCHOYU_PLAN_WORDS
+#define STATE state, KINCHOYU_STATE_WORDS
+
+static unsigned made;
+
+/* Ends the program where a call answers another number. */
+static void answers(uint64_t wanted, uint64_t number, int line)
+{
+    made++;
+    if (number != wanted) {
+        fprintf(stderr, "calls.c:%d: %d (%s), and not %d\n", line, (int)number,
+                kinchoyu_refusal_text(number), (int)wanted);
+        exit(1);
+    }
+}
+#define ANSWERS(wanted, call) answers(wanted, call, __LINE__)
+
+static void header(void)
+{
+    char version[32];
+    snprintf(version, sizeof version, "%d.%d.%d", KINCHOYU_VERSION_MAJOR, KINCHOYU_VERSION_MINOR,
+             KINCHOYU_VERSION_PATCH);
+    if (strcmp(version, KINCHOYU_VERSION) != 0) {
+        fprintf(stderr, "%s is version %s too\n", KINCHOYU_VERSION, version);
+        exit(1);
+    }
+    ANSWERS(KINCHOYU_PLAN_WORDS, kinchoyu_plan_words());
+    ANSWERS(KINCHOYU_STATE_WORDS, kinchoyu_state_words());
+}
+
+static uint64_t plan[KINCHOYU_PLAN_WORDS], state[KINCHOYU_STATE_WORDS], out[3];
+
+/* A circuit of one cell, with no constants, variables and tables: most of its buffers are empty. */
+static void null_where_the_length_is_0(void)
+{
+    static const uint64_t parameters[] = {1, 1, 0, 0, 0, 0, 0, 0}, gates[] = {1, 0, 0};
+    static const uint64_t row[] = {0, 0}, cell[] = {KINCHOYU_PLACEHOLDER};
+    static const uint64_t listing[] = {8, 1, 1, 0, 0, 0, 0, 0, 0, /* parameters */
+                                       1, 1, 0, 0, 1, 0, 0, 0,     /* gates, rows, S words */
+                                       1, KINCHOYU_PLACEHOLDER, 0}; /* cells, tables */
+    static const uint64_t finish[] = {KINCHOYU_FINISH, 0};
+    uint64_t copies[1], number[1];
+
+    /* nothing but NULL */
+    ANSWERS(20, kinchoyu_plan(NULL, 0, NULL, 0, NULL, 0));
+    ANSWERS(19, kinchoyu_path(NULL, 0, 0, NULL, 0));
+    ANSWERS(19, kinchoyu_table_id(NULL, 0, NULL, 0));
+    ANSWERS(19, kinchoyu_stats(NULL, 0, NULL, 0));
+    ANSWERS(10, kinchoyu_label(1, 1, 0, NULL, 0));
+    ANSWERS(19, kinchoyu_open(NULL, 0, NULL, 0, NULL, 0, NULL, 0, NULL, 0, NULL, 0));
+    ANSWERS(19, kinchoyu_rows(NULL, 0, NULL, 0, NULL, 0));
+    ANSWERS(19, kinchoyu_s_words(NULL, 0, NULL, 0, NULL, 0));
+    ANSWERS(19, kinchoyu_cells(NULL, 0, NULL, 0, NULL, 0, NULL, 0));
+    ANSWERS(19, kinchoyu_tables(NULL, 0, NULL, 0, NULL, 0));
+    ANSWERS(19, kinchoyu_finish(NULL, 0, NULL, 0, NULL, 0));
+    ANSWERS(0, kinchoyu_calls(NULL, 0, NULL, 0, NULL, 0, NULL, 0, NULL, 0, NULL, 0, NULL, 0));
+    ANSWERS(20, kinchoyu_run(NULL, 0, NULL, 0, NULL, 0, NULL, 0, NULL, 0, NULL, 0));
+
+    /* NULL for each buffer that may be empty, in accepted calls; for the others, 10 */
+    ANSWERS(10, kinchoyu_plan(parameters, 8, gates, 3, NULL, 0));
+    ANSWERS(3, kinchoyu_plan(parameters, 8, NULL, 0, PLAN));
+    ANSWERS(0, kinchoyu_plan(parameters, 8, gates, 3, PLAN));
+    ANSWERS(10, kinchoyu_path(PLAN, 0, NULL, 0));
+    ANSWERS(10, kinchoyu_table_id(PLAN, NULL, 0));
+    ANSWERS(10, kinchoyu_stats(PLAN, NULL, 0));
+    ANSWERS(10, kinchoyu_open(PLAN, NULL, 0, NULL, 0, copies, 1, NULL, 0, NULL, 0));
+    ANSWERS(10, kinchoyu_open(PLAN, STATE, NULL, 0, NULL, 0, NULL, 0, NULL, 0));
+    ANSWERS(0, kinchoyu_open(PLAN, STATE, NULL, 0, copies, 1, NULL, 0, NULL, 0));
+    ANSWERS(0, kinchoyu_rows(STATE, NULL, 0, NULL, 0));
+    ANSWERS(0, kinchoyu_rows(STATE, row, 2, NULL, 0));
+    ANSWERS(0, kinchoyu_s_words(STATE, NULL, 0, NULL, 0));
+    ANSWERS(10, kinchoyu_cells(STATE, cell, 1, NULL, 0, NULL, 0));
+    ANSWERS(0, kinchoyu_cells(STATE, NULL, 0, copies, 1, NULL, 0));
+    ANSWERS(0, kinchoyu_cells(STATE, cell, 1, copies, 1, NULL, 0));
+    ANSWERS(0, kinchoyu_tables(STATE, NULL, 0, NULL, 0));
+    ANSWERS(10, kinchoyu_finish(STATE, NULL, 0, NULL, 0));
+    ANSWERS(0, kinchoyu_calls(STATE, NULL, 0, NULL, 0, NULL, 0, copies, 1, NULL, 0, NULL, 0));
+    ANSWERS(10, kinchoyu_calls(STATE, finish, 2, NULL, 0, NULL, 0, copies, 1, NULL, 0, NULL, 0));
+    ANSWERS(0, kinchoyu_calls(STATE, finish, 2, number, 1, NULL, 0, copies, 1, NULL, 0, NULL, 0));
+    ANSWERS(0, number[0]);
+    ANSWERS(10, kinchoyu_run(listing, WORDS(listing), NULL, 0, NULL, 0, copies, 1, NULL, 0, NULL, 0));
+    ANSWERS(10, kinchoyu_run(listing, WORDS(listing), PLAN, NULL, 0, NULL, 0, NULL, 0, NULL, 0));
+    ANSWERS(0, kinchoyu_run(listing, WORDS(listing), PLAN, NULL, 0, copies, 1, NULL, 0, NULL, 0));
+}
+
+/* A plan that nobody planned: a tree as deep as its nodes allow, each fork's right child a leaf. */
+static void deepest(uint64_t made_up[KINCHOYU_PLAN_WORDS])
+{
+    uint64_t *nodes = made_up + 393;
+    memset(nodes, 0, 766 * sizeof *nodes);
+    for (uint64_t i = 0; i < 127; i++) {
+        nodes[3 * i] = i + 1;
+        nodes[3 * i + 1] = 254 - i;
+    }
+    for (uint64_t i = 127; i < 255; i++) {
+        nodes[3 * i + 2] = i - 127;
+    }
+    made_up[1158] = 255;
+}
+
+#define N 256
+#define C 2
+#define COLUMNS \
+    constants, WORDS(constants), copies, WORDS(copies), scratch, WORDS(scratch), tables, WORDS(tables)
+
+/* Every call: 128 gates, S words, tables in mode 4. */
+static void every_call(uint64_t first_degree, uint64_t step)
+{
+    static uint64_t constants[48 * N], copies[C * N], scratch[2 * N], tables[2 * N], numbers[5];
+    static uint64_t gates[3 * KINCHOYU_MOST_GATES], rows[2 * N], s_words[N], cells[C * N];
+    /* the words of the sections, with a count before each; those of the calls, with two */
+    static uint64_t listing[8 + WORDS(gates) + WORDS(rows) + WORDS(s_words) + WORDS(cells) + 3 + 6];
+    static uint64_t list[WORDS(rows) + WORDS(s_words) + WORDS(cells) + 3 + 10];
+    static const uint64_t parameters[] = {N, C, 16, 1, N, 4, 1, 1}, table[] = {1, 1, 9};
+    const struct {
+        const uint64_t *words;
+        size_t length;
+        uint64_t count;
+    } sections[] = {
+        {parameters, WORDS(parameters), WORDS(parameters)},
+        {gates, WORDS(gates), KINCHOYU_MOST_GATES},
+        {rows, WORDS(rows), N},
+        {s_words, WORDS(s_words), N},
+        {cells, WORDS(cells), C * N},
+        {table, WORDS(table), 1},
+    };
+    size_t place = 0, listed = 0;
+    for (uint64_t i = 0; i < KINCHOYU_MOST_GATES; i++) {
+        gates[3 * i] = 0;
+        /* the first one's degree makes room for so many */
+        gates[3 * i + 1] = i == 0 ? 17 : 1 + (first_degree + i * step) % 8;
+        gates[3 * i + 2] = i % 3;
+    }
+    for (uint64_t i = 0; i < N; i++) {
+        rows[2 * i] = i % KINCHOYU_MOST_GATES;
+        s_words[i] = i;
+        cells[i] = i;
+        cells[N + i] = N - 1 - i;
+    }
+    for (size_t i = 0; i < WORDS(sections); i++) {
+        listing[place++] = sections[i].count;
+        memcpy(listing + place, sections[i].words, sections[i].length * sizeof *listing);
+        place += sections[i].length;
+        if (i >= 2) {
+            list[listed++] = i - 1;
+            list[listed++] = sections[i].length;
+            memcpy(list + listed, sections[i].words, sections[i].length * sizeof *list);
+            listed += sections[i].length;
+        }
+    }
+    list[listed++] = KINCHOYU_FINISH;
+    list[listed++] = 0;
+
+    ANSWERS(0, kinchoyu_run(listing, place, PLAN, COLUMNS));
+    memset(plan, 0, sizeof plan);
+    ANSWERS(0, kinchoyu_plan(parameters, 8, gates, WORDS(gates), PLAN));
+    ANSWERS(0, kinchoyu_path(PLAN, 127, out, 3));
+    ANSWERS(0, kinchoyu_table_id(PLAN, out, 3));
+    ANSWERS(0, kinchoyu_stats(PLAN, out, 3));
+    ANSWERS(0, kinchoyu_label(N, 64, 64 * N - 1, out, 3));
+    ANSWERS(0, kinchoyu_open(PLAN, STATE, COLUMNS));
+    ANSWERS(0, kinchoyu_calls(STATE, list, listed, numbers, 5, COLUMNS));
+    for (size_t i = 0; i < WORDS(numbers); i++) {
+        ANSWERS(0, numbers[i]);
+    }
+    ANSWERS(0, kinchoyu_open(PLAN, STATE, COLUMNS));
+    ANSWERS(0, kinchoyu_rows(STATE, rows, WORDS(rows), constants, WORDS(constants)));
+    ANSWERS(0, kinchoyu_s_words(STATE, s_words, N, constants, WORDS(constants)));
+    ANSWERS(0, kinchoyu_cells(STATE, cells, C * N, copies, WORDS(copies), scratch, WORDS(scratch)));
+    ANSWERS(0, kinchoyu_tables(STATE, table, 3, tables, WORDS(tables)));
+
+    /* the same calls with the deepest tree */
+    deepest(state);
+    ANSWERS(19, kinchoyu_rows(STATE, rows, WORDS(rows), constants, WORDS(constants)));
+    ANSWERS(19, kinchoyu_s_words(STATE, s_words, N, constants, WORDS(constants)));
+    ANSWERS(19, kinchoyu_cells(STATE, cells, C * N, copies, WORDS(copies), scratch, WORDS(scratch)));
+    ANSWERS(19, kinchoyu_tables(STATE, table, 3, tables, WORDS(tables)));
+    ANSWERS(19, kinchoyu_finish(STATE, copies, WORDS(copies), scratch, WORDS(scratch)));
+    ANSWERS(0, kinchoyu_calls(STATE, list, listed, numbers, 5, COLUMNS));
+    ANSWERS(19, numbers[4]);
+    deepest(plan);
+    ANSWERS(19, kinchoyu_path(PLAN, 127, out, 3));
+    ANSWERS(19, kinchoyu_table_id(PLAN, out, 3));
+    ANSWERS(19, kinchoyu_stats(PLAN, out, 3));
+    ANSWERS(19, kinchoyu_open(PLAN, STATE, COLUMNS));
+}
+
+static void *in_a_thread(void *nothing)
+{
+    header();
+    null_where_the_length_is_0();
+    for (uint64_t step = 0; step < 8; step++) {
+        for (uint64_t first = 0; first < 8; first++) {
+            every_call(first, step);
+        }
+    }
+    return nothing;
+}
+
+int main(int count, char **arguments)
+{
+    size_t bytes = count > 1 ? strtoul(arguments[1], NULL, 10) : KINCHOYU_STACK_BYTES;
+    pthread_attr_t attributes;
+    pthread_t thread;
+    if (pthread_attr_init(&attributes) != 0 || pthread_attr_setstacksize(&attributes, bytes) != 0 ||
+        pthread_create(&thread, &attributes, in_a_thread, NULL) != 0 || pthread_join(thread, NULL) != 0) {
+        fprintf(stderr, "no thread with a stack of %zu bytes\n", bytes);
+        return 2;
+    }
+    printf("%u calls, in a thread with a stack of %zu KiB\n", made, bytes / 1024);
+    return 0;
+}
