@@ -15,7 +15,7 @@ use crate::finishing::all_used;
 use crate::finishing::scratch_fine;
 use crate::finishing::write_firsts;
 use crate::opening::clear;
-use crate::records::write_many;
+use crate::records::write_words;
 use crate::row_tests::test_rows;
 use crate::rows::write_rows;
 use crate::s_words::s_words_fault;
@@ -273,7 +273,7 @@ impl Intake {
                 return refused(fault, self);
             }
             let at = (plan.constants * plan.trace + self.s_words) as usize;
-            write_many(at, piece, constants);
+            write_words(at, piece, constants);
             self.s_words = self.s_words + piece.len() as u64;
             return Taken {
                 number: 0,

@@ -8,7 +8,6 @@ ghost use Rattle.pieces.specs.Writing.{put, padded, putLines};
 ghost use Rattle.pieces.specs.Rows.{rowsFault, rowLines};
 ghost use Rattle.base.specs.Digits.{digits};
 ghost use Rattle.columns.specs.Placed.{Blanks, Spells, Fits, Stageable, Stages};
-use crate::records::write_few;
 use crate::records::write_lines;
 use crate::records::write_path;
 use crate::records::write_same;
@@ -96,7 +95,7 @@ fn stage_line(
 {
     stage_blank(at, height, gate, ready, bits, steps, lines, stage);
     let g = gate as usize;
-    write_few(at + steps[g] as usize, words, stage);
+    write_words(at + steps[g] as usize, words, stage);
 }
 
 // How many words of a piece are staged, and as how many rows.
