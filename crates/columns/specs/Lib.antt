@@ -1,5 +1,5 @@
 -- 01, 'Columns by pieces': what the code's types mean in the definitions of `pieces`.
-pub mod Fours
+pub mod Placeable
 pub mod Lines
 pub mod Placed
 pub mod Passed
