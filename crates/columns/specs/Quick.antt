@@ -1,10 +1,10 @@
 -- What the quick tests of a whole piece of cells, and of all of scratch, ask of each word. They may fail where nothing is wrong: then the words are asked one by one.
 --
--- Main definitions: `Named`, `Within`. Main statements: `named-none`, `within-parts`.
-use mathlib.Core.Path.{_≡_, refl, subst}
+-- Main definitions: `Named`, `Within`. Main statements: `named-none`, `within-fine`.
+use mathlib.Core.Path.{_≡_, refl}
 use mathlib.Core.Bool.{Bool, true, false}
 use mathlib.Core.List.{List, [], _∷_}
-use Prim.Native.Nat.{ℕ, zero, suc, _+_, _-_, _*_, _<_, _≤_}
+use Prim.Native.Nat.{ℕ, zero, suc, _+_, _*_, _<_, _≤_}
 use native.Mathlib.Decide.{decLt}
 use native.Mathlib.Omega.{arith}
 use lib.ListN.{length, getD}
@@ -50,15 +50,6 @@ unfolding everyFrom
 within-from cells scratch zero v h = refl
 within-from cells scratch (suc m) v h = rw (within-one cells v scratch (h v (omega arith))) (within-from cells scratch m (suc v) (λ i l. h i (omega arith)))
 
-within-fine : (vars cells : ℕ) (scratch : List ℕ) → ((v : ℕ) → v < vars → Within cells scratch v) → scratchFine vars cells scratch ≡ true
+pub within-fine : (vars cells : ℕ) (scratch : List ℕ) → ((v : ℕ) → v < vars → Within cells scratch v) → scratchFine vars cells scratch ≡ true
 unfolding scratchFine
 within-fine vars cells scratch h = within-from cells scratch vars 0 (λ i l. h i (omega arith))
-
--- tested in two parts, the later variables first
-pub within-parts : (vars front cells : ℕ) (scratch : List ℕ) → ((v : ℕ) → v < vars - front → Within cells scratch (front + v))
-    → ((v : ℕ) → v < front → Within cells scratch (0 + v)) → scratchFine vars cells scratch ≡ true
-within-parts vars front cells scratch late early = within-fine vars cells scratch (λ v l. go v l (decLt v front))
-  where
-    go : (v : ℕ) → v < vars → Dec (v < front) → Within cells scratch v
-    go v l (yes h) = subst (Within cells scratch) (omega arith) (early v h)
-    go v l (no h) = subst (Within cells scratch) (omega arith) (late (v - front) (omega arith))

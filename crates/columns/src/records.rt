@@ -60,16 +60,6 @@ pub(crate) fn write_words(at: usize, words: &[u64], buffer: &mut [u64])
     }
 }
 
-// The lesser of two numbers.
-pub(crate) fn lesser(x: usize, y: usize) -> usize
-    ensures { λ r. ⌜ (r ≤ x) × (r ≤ y) × (0 < x → 0 < y → 0 < r) ⌝ }
-{
-    if x < y {
-        return x;
-    }
-    y
-}
-
 // The first digits of a word at consecutive places, the least first: a path's steps from the root on.
 pub(crate) fn write_path(at: usize, bits: u64, many: u64, buffer: &mut [u64])
     requires { ⌜ at + many ≤ length (now buffer) ⌝ }
