@@ -2,7 +2,6 @@
 pub mod Placeable
 pub mod Lines
 pub mod Placed
-pub mod Passed
 pub mod Stacked
 pub mod Quick
 pub mod Intake
