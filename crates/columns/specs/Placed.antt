@@ -3,7 +3,7 @@
 -- Main definitions: `Spells`, `Fits`, `Stageable`, `Stages`.
 use mathlib.Core.Path.{_≡_}
 use mathlib.Core.List.{List, _++_, map}
-use Prim.Native.Nat.{ℕ, _+_, _*_, _≤_, _<_}
+use Prim.Native.Nat.{ℕ, _+_, _≤_, _<_}
 use lib.ListN.{length, getD, drop}
 use Rattle.pieces.specs.Records.{Read, rowsOf}
 use Rattle.pieces.specs.Rows.{rowsFault, rowLines}

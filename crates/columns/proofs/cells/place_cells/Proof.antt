@@ -1,10 +1,10 @@
 -- `columns::cells::place_cells` meets its contract. What is left to run from the present columns is what the whole run gives.
 -- Assumes nothing.
 use borrow.Author.Needs.{needs}
-use mathlib.Core.Path.{_≡_, refl, sym, ap, _∙_}
+use mathlib.Core.Path.{_≡_, refl, sym, _∙_}
 use native.Mathlib.Omega.{arith}
 use native.Mathlib.Nat.{add-zero}
-use Prim.Native.Nat.{ℕ, _+_, _-_, _≤_}
+use Prim.Native.Nat.{_+_, _-_, _≤_}
 use lib.ListN.{length, drop}
 use Rattle.pieces.specs.Setting.{cols}
 use Rattle.pieces.specs.Cells.{cellsRun}

@@ -3,7 +3,7 @@
 use borrow.Author.Needs.{needs}
 use mathlib.Core.Path.{_≡_, sym}
 use native.Mathlib.Omega.{arith}
-use Prim.Native.Nat.{_+_, _-_, _*_, _/_, _≤_}
+use Prim.Native.Nat.{_-_, _*_, _/_, _≤_}
 use Rattle.base.specs.Pick.{true-not-false}
 use Rattle.base.specs.Quarters.{Quarters, quarters-none, quarters-turn, quarters-all}
 use Rattle.columns.specs.Quick.{Within}
