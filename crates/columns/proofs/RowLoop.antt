@@ -16,7 +16,6 @@ use Rattle.tree.specs.Plan.{gateRowsAnswer, planFault, planOwn, planPath}
 use Rattle.tree.specs.SoundLaws.{sound, gate-words, gates-many}
 use Rattle.tree.specs.declared.gate_rows.GateRows.{GateRows}
 use Rattle.tree.specs.declared.plan.Plan.{Plan}
-use Rattle.columns.specs.Passed.{Passed}
 use Rattle.columns.specs.Placed.{Spells, Fits}
 
 -- the records from place i on
@@ -35,18 +34,20 @@ left-split piece i two fits =
     next .split ∙ ap (λ (l : List Read). whole (getD piece i 0) (getD piece (i + 1) 0) (take (getD piece (i + 1) 0) (drop (i + 2) piece)) ∷ l)
     (r .are ∙ read-fuel rowSize (r .turns) (length (drop k piece)) (drop k piece) (omega (arith, r .enough, length-drop k piece)) (omega arith))
 
--- ---- a walk that meets nothing wrong
-module _ (many : ℕ) (own : ℕ → ℕ) (trace : ℕ) (piece : List ℕ) where
-  pub passed-none : (used : List ℕ) (row i : ℕ) → i ≤ length piece → row ≤ trace → Passed many own trace piece used row i used row i
-  passed-none used row i within low = record { within = within; low = low; fault = refl; counted = refl; marks = refl }
+-- ---- a walk that meets nothing wrong: it has come from row `row₀` at the front of the piece, with the marks `used₀`, to row `row` at place i with the marks
+-- `used`, and the records that are left there decide what all of them decide
+module _ (many : ℕ) (own : ℕ → ℕ) (trace : ℕ) (piece used₀ : List ℕ) (row₀ : ℕ) where
+  pub record Passed (used : List ℕ) (row i : ℕ) : Type 0 where
+    pub within : i ≤ length piece
+    pub low : row ≤ trace
+    pub fault : rowsFault many own trace row₀ (rowsOf piece) ≡ rowsFault many own trace row (rowsOf (drop i piece))
+    pub counted : row₀ + length (rowsOf piece) ≡ row + length (rowsOf (drop i piece))
+    pub marks : marked used₀ (rowsOf piece) ≡ marked used (rowsOf (drop i piece))
 
-  -- two walks, one after the other
-  pub passed-then : (used₀ : List ℕ) (row₀ i₀ : ℕ) (used₁ : List ℕ) (row₁ i₁ : ℕ) (used : List ℕ) (row i : ℕ)
-      → Passed many own trace piece used₀ row₀ i₀ used₁ row₁ i₁ → Passed many own trace piece used₁ row₁ i₁ used row i → Passed many own trace piece used₀ row₀ i₀ used row i
-  passed-then used₀ row₀ i₀ used₁ row₁ i₁ used row i a b =
-      record { within = b .within; low = b .low; fault = a .fault ∙ b .fault; counted = a .counted ∙ b .counted; marks = a .marks ∙ b .marks }
+  pub passed-none : row₀ ≤ trace → Passed used₀ row₀ 0
+  passed-none low = record { within = omega arith; low = low; fault = refl; counted = refl; marks = refl }
 
-  module _ (used₀ : List ℕ) (row₀ i₀ : ℕ) (used : List ℕ) (row i : ℕ) (w : Passed many own trace piece used₀ row₀ i₀ used row i) where
+  module _ (used : List ℕ) (row i : ℕ) (w : Passed used row i) where
     abbrev g : ℕ
     g = getD piece i 0
 
@@ -57,7 +58,7 @@ module _ (many : ℕ) (own : ℕ → ℕ) (trace : ℕ) (piece : List ℕ) where
     cs = take n (drop (i + 2) piece)
 
     -- one record further
-    pub passed-next : i + 1 < length piece → n ≤ length piece - (i + 2) → RowFine many own trace row g n cs → Passed many own trace piece used₀ row₀ i₀ (set used g 1) (row + 1) (i + 2 + n)
+    pub passed-next : i + 1 < length piece → n ≤ length piece - (i + 2) → RowFine many own trace row g n cs → Passed (set used g 1) (row + 1) (i + 2 + n)
     passed-next two fits fine =
         let later = rowsOf (drop (i + 2 + n) piece) in
         let split = left-split piece i two fits in
@@ -71,7 +72,7 @@ module _ (many : ℕ) (own : ℕ → ℕ) (trace : ℕ) (piece : List ℕ) where
 
     -- the record at the front has a fault: it is the first one
     pub passed-found : i < length piece → rowFault many own trace row (front rowSize (drop i piece)) ≢ 0
-        → rowsFault many own trace row₀ (rowsOf (drop i₀ piece)) ≡ rowFault many own trace row (front rowSize (drop i piece))
+        → rowsFault many own trace row₀ (rowsOf piece) ≡ rowFault many own trace row (front rowSize (drop i piece))
     passed-found h d =
         let f = rest-front rowSize piece i (rowsOf (drop i piece)) (left piece i) h in
         w .fault ∙ ap (rowsFault many own trace row) (f .1) ∙ fault-here (rowFault many own trace) (λ r _. suc r) row (front rowSize (drop i piece)) (f .0) d
@@ -81,14 +82,14 @@ module _ (many : ℕ) (own : ℕ → ℕ) (trace : ℕ) (piece : List ℕ) where
       none : rowsOf (drop i piece) ≡ []
       none = rest-done rowSize piece i (rowsOf (drop i piece)) (left piece i) h
 
-      pub passed-fine : rowsFault many own trace row₀ (rowsOf (drop i₀ piece)) ≡ 0
+      pub passed-fine : rowsFault many own trace row₀ (rowsOf piece) ≡ 0
       unfolding firstFault
       passed-fine = w .fault ∙ ap (rowsFault many own trace row) none
 
-      pub passed-count : row ≡ row₀ + length (rowsOf (drop i₀ piece))
+      pub passed-count : row ≡ row₀ + length (rowsOf piece)
       passed-count = omega (arith, w .counted, ap length none)
 
-      pub passed-marks : used ≡ marked used₀ (rowsOf (drop i₀ piece))
+      pub passed-marks : used ≡ marked used₀ (rowsOf piece)
       passed-marks = sym (w .marks ∙ ap (marked used) none ∙ marks-done used)
 
 -- ---- the gates of a sound plan, as its own answer has them

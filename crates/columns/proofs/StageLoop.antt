@@ -1,27 +1,26 @@
--- The loop that makes lines ready: the first lines are the gates'. The loop that stages rows: the records that are staged are the first lines of the stage, and the rest is what is left. The loop that writes what is staged:
+-- The loop that stages rows: the records that are staged are the first lines of the stage, and the rest is what is left. The loop that writes what is staged:
 -- the records that are left, from the present row on, give what the whole piece gives. Assumes nothing.
 use mathlib.Core.Path.{_≡_, refl, sym, ap, _∙_}
 use mathlib.Core.Logic.{_≢_, _⊎_, ⊎-elim}
 use mathlib.Core.List.{List, [], _∷_, _++_, map, map-append}
 use Prim.Native.Nat.{ℕ, zero, suc, _+_, _-_, _*_, _≤_, _<_}
-use native.Mathlib.Nat.{add-zero, mul-le-mul-left, not-suc-le-zero, le-of-suc-le-suc, add-suc, suc-add}
+use native.Mathlib.Nat.{add-zero, not-suc-le-zero, le-of-suc-le-suc, add-suc, suc-add}
 use native.Mathlib.Numerals.{add-one}
-use native.Mathlib.Decide.{ℕ-discrete}
 use native.Mathlib.Omega.{arith}
 use lib.ListN.{length, getD, set, take, drop, length-append, length-drop}
 use lib.Seq.{drop-set-add, drop-drop, append-snoc}
 use Rattle.base.specs.Drops.{drop-none}
 use Rattle.pieces.specs.Records.{Read, whole, cut, rowSize, readBy, rowsOf}
 use Rattle.pieces.specs.Writing.{put, padded, putLines}
-use Rattle.pieces.specs.WriteLaws.{put-length, padded-length}
+use Rattle.pieces.specs.WriteLaws.{padded-length}
 use Rattle.pieces.specs.Rows.{rowFault, rowsFault, rowLines}
 use Rattle.pieces.specs.RecordLaws.{Rest, Going, rest-begin, rest-whole, read-fuel, fault-head, going}
 use Rattle.pieces.specs.FaultLaws.{row-cut, row-fine, rows-room}
 use Rattle.pieces.specs.ClosedForms.{lines-append, lines-many}
 use Rattle.pieces.specs.LineLaws.{lines-through, rows-done}
-use Rattle.base.specs.Digits.{digits, Spelled}
+use Rattle.base.specs.Digits.{Spelled}
 use Rattle.columns.specs.Lines.{cutLines, lines-padded}
-use Rattle.columns.specs.Placed.{Blanks, Spells, Stageable, Stages}
+use Rattle.columns.specs.Placed.{Spells, Stageable, Stages}
 
 -- ---- one line more, after n lines of w words that stand d words apart
 padded-set : (w : ℕ) (b : List ℕ) (k x : ℕ) → w ≤ k → padded w (set b k x) ≡ padded w b
@@ -48,7 +47,7 @@ unfolding put
 put-cons x b i [] = refl
 put-cons x b i (w ∷ ws) = let z : suc i + 1 ≡ suc (i + 1) = omega arith in rw z (put-cons x (set b i w) (i + 1) ws)
 
-pub put-front : (b ws : List ℕ) → length ws ≤ length b → padded (length ws) (put 1 b 0 ws) ≡ ws
+put-front : (b ws : List ℕ) → length ws ≤ length b → padded (length ws) (put 1 b 0 ws) ≡ ws
 unfolding padded put
 put-front b [] h = refl
 put-front [] (w ∷ ws) h = absurd (not-suc-le-zero h)
@@ -64,34 +63,6 @@ cut-more w d (suc n) b ws h l room =
     let z : d * suc n ≡ d + d * n = omega arith in
     let p : padded w (put 1 b (d + d * n) ws) ≡ padded w b = put-behind w b (d + d * n) ws (omega arith) in
     rw (z, p, put-past d b (d * n) ws) (ap (λ (ls : List (List ℕ)). padded w b ∷ ls) (cut-more w d n (drop d b) ws h l (omega (arith, length-drop d b))))
-
--- ---- lines without constants, one after the other
-pub blanks-none : (height : ℕ) (bits steps lines : List ℕ) → Blanks height bits steps lines 0
-blanks-none height bits steps lines = record { room = omega arith; blanks = λ g h. absurd (not-suc-le-zero h) }
-
--- a gate's line without constants
-abbrev blank : ℕ → ℕ → ℕ → List ℕ
-blank height steps bits = padded height (digits steps bits)
-
-pub blanks-next : (height : ℕ) (bits steps lines lines' : List ℕ) (n : ℕ) → Blanks height bits steps lines n → height * n + height ≤ length lines
-    → lines' ≡ put 1 lines (height * n) (padded height (digits (getD steps n 0) (getD bits n 0))) → Blanks height bits steps lines' (n + 1)
-blanks-next height bits steps lines lines' n v room wrote =
-    record { room = omega (arith, ap length wrote, put-length 1 lines (height * n) (blank height (getD steps n 0) (getD bits n 0))); blanks = λ g h. go g h (ℕ-discrete g n) }
-  where
-    go : (g : ℕ) → g < n + 1 → Dec (g ≡ n) → padded height (drop (height * g) lines') ≡ padded height (digits (getD steps g 0) (getD bits g 0))
-    go g h (yes e) =
-        let line = blank height (getD steps n 0) (getD bits n 0) in
-        let k = padded-length height (digits (getD steps n 0) (getD bits n 0)) in
-        let z : height * n + 0 ≡ height * n = omega arith in
-        let w : lines' ≡ put 1 lines (height * n + 0) line = rw z wrote in
-        rw (e, w, put-past (height * n) lines 0 line) (rw k at (put-front (drop (height * n) lines) line (omega (arith, k, length-drop (height * n) lines))))
-    go g h (no e) =
-        let line = blank height (getD steps n 0) (getD bits n 0) in
-        let before : g < n = omega arith in
-        let far : height * g + height ≤ height * n = omega (arith, mul-le-mul-left height before) in
-        let z : height * g + (height * n - height * g) ≡ height * n = omega arith in
-        let w : lines' ≡ put 1 lines (height * g + (height * n - height * g)) line = rw z wrote in
-        rw (w, put-past (height * g) lines (height * n - height * g) line) (put-behind height (drop (height * g) lines) (height * n - height * g) line (omega arith) ∙ v .blanks g before)
 
 -- ---- records after some: they have no fault either
 rows-later : (many : ℕ) (own : ℕ → ℕ) (N r : ℕ) (xs ys : List Read) → rowsFault many own N r (xs ++ ys) ≡ 0 → rowsFault many own N (r + length xs) ys ≡ 0

@@ -1,8 +1,7 @@
 -- 01, 'Columns by pieces': what the code's types mean in the definitions of `pieces`.
-pub mod Fours
+pub mod Placeable
 pub mod Lines
 pub mod Placed
-pub mod Passed
 pub mod Stacked
 pub mod Quick
 pub mod Intake

@@ -1,18 +1,17 @@
 -- Lines written column by column: those that stand in a list of words one after the other, and the column that they make.
 --
 -- Main definitions: `strided`, `cutLines`, `columnOf`. Main statements: `lines-none`, `lines-column` (one column after the columns before it), `cut-column` (a
--- column of lines in a list is every d-th word), `lines-padded` (only a line's first words are written), `line-over` (a line's second part over zeros), and for the loop over a column `strided-turn`, `strided-done`.
+-- column of lines in a list is every d-th word), `lines-padded` (only a line's first words are written), and for the loop over a column `strided-turn`, `strided-done`.
 use mathlib.Core.Path.{_≡_, refl, sym, ap, _∙_}
 use mathlib.Core.Logic.{_≢_}
 use mathlib.Core.List.{List, [], _∷_, _++_, map}
 use Prim.Native.Nat.{ℕ, zero, suc, _+_, _-_, _*_, _≤_, _<_}
-use native.Mathlib.Nat.{not-suc-le-zero, le-of-suc-le-suc}
 use native.Mathlib.Numerals.{add-one}
 use native.Mathlib.Omega.{arith}
-use lib.ListN.{length, getD, set, drop, replicate}
-use lib.Seq.{set-comm, set-set, drop-drop, getD-drop}
+use lib.ListN.{length, getD, set, drop}
+use lib.Seq.{set-comm, drop-drop, getD-drop}
 use Rattle.pieces.specs.Writing.{put, padded, putLines}
-use Rattle.pieces.specs.WriteLaws.{padded-length, padded-all, padded-at, padded-split, put-append, put-line, below-rows}
+use Rattle.pieces.specs.WriteLaws.{padded-length, padded-all, padded-at, put-append, below-rows}
 
 -- every d-th word, n of them
 unfoldable pub strided : ℕ → ℕ → List ℕ → List ℕ
@@ -40,33 +39,6 @@ put-set d b i [] j y h = refl
 put-set d b i (w ∷ ws) j y h =
     let n : j ≢ i = λ e. h 0 (omega arith) (omega arith) in
     ap (λ (l : List ℕ). put d l (i + d) ws) (set-comm b j i y w n) ∙ put-set d (set b i w) (i + d) ws j y (λ c q e. h (suc c) (omega arith) (omega arith))
-
--- words over zeros that were put there before
-put-over : (b : List ℕ) (i m : ℕ) (ws : List ℕ) → length ws ≤ m → put 1 (put 1 b i (replicate m 0)) i ws ≡ put 1 (put 1 b i ws) (i + length ws) (replicate (m - length ws) 0)
-unfolding put
-put-over b i m [] h =
-    let e : i + 0 ≡ i = omega arith in
-    let z : m - 0 ≡ m = omega arith in
-    rw (e, z)
-put-over b i zero (w ∷ ws) h = absurd (not-suc-le-zero h)
-put-over b i (suc m) (w ∷ ws) h =
-    let e : i + 1 + length ws ≡ i + suc (length ws) = omega arith in
-    let zs = replicate {A = ℕ} m 0 in
-    let over : set (put 1 (set b i 0) (i + 1) zs) i w ≡ put 1 (set b i w) (i + 1) zs =
-    sym (put-set 1 (set b i 0) (i + 1) zs i w (λ c q z. omega (arith, z))) ∙ ap (λ (l : List ℕ). put 1 l (i + 1) zs) (set-set b i 0 w) in
-    let n : m - length ws ≡ suc m - suc (length ws) = omega arith in
-    ap (λ (l : List ℕ). put 1 l (i + 1) ws) over ∙ rw (e, n) at (put-over (set b i w) (i + 1) m ws (le-of-suc-le-suc h))
-
--- a line's second part over the zeros after its first part
-pub line-over : (k : ℕ) (b : List ℕ) (i : ℕ) (xs ys : List ℕ) → length xs + length ys ≤ k → put 1 (put 1 b i (padded k xs)) (i + length xs) ys ≡ put 1 b i (padded k (xs ++ ys))
-line-over k b i xs ys h =
-    let x : i + length xs * 1 ≡ i + length xs = omega arith in
-    let y : i + (length xs + length ys) * 1 ≡ i + length xs + length ys = omega arith in
-    let z : k - (length xs + length ys) ≡ k - length xs - length ys = omega arith in
-    let B = put 1 b i xs in
-    let first : put 1 b i (padded k xs) ≡ put 1 B (i + length xs) (replicate (k - length xs) 0) =
-    ap (put 1 b i) (padded-split k xs (omega arith)) ∙ put-append 1 b i xs (replicate (k - length xs) 0) ∙ rw x in
-    ap (λ (l : List ℕ). put 1 l (i + length xs) ys) first ∙ put-over B (i + length xs) (k - length xs) ys (omega arith) ∙ sym (put-line k 1 b i xs ys h ∙ rw (x, y, z))
 
 lines-set : (k N r : ℕ) (ls : List (List ℕ)) (b : List ℕ) (j y : ℕ) → k * N ≤ j → r + length ls ≤ N → putLines k N r ls (set b j y) ≡ set (putLines k N r ls b) j y
 unfolding putLines

@@ -1,14 +1,14 @@
 -- What the rows of a call need of the gates: path and number of constants of each, as lists by the gate's place.
 --
--- Main definitions: `Spells`, `Fits`, `Stageable`, `Blanks`, `Stages`.
+-- Main definitions: `Spells`, `Fits`, `Stageable`, `Stages`.
 use mathlib.Core.Path.{_≡_}
 use mathlib.Core.List.{List, _++_, map}
-use Prim.Native.Nat.{ℕ, _+_, _*_, _≤_, _<_}
+use Prim.Native.Nat.{ℕ, _+_, _≤_, _<_}
 use lib.ListN.{length, getD, drop}
 use Rattle.pieces.specs.Records.{Read, rowsOf}
 use Rattle.pieces.specs.Rows.{rowsFault, rowLines}
 use Rattle.pieces.specs.Writing.{padded}
-use Rattle.base.specs.Digits.{digits, Spelled}
+use Rattle.base.specs.Digits.{Spelled}
 use Rattle.columns.specs.Lines.{cutLines}
 
 -- the words `bits` and `steps` spell the paths of `many` gates
@@ -28,11 +28,6 @@ pub record Stageable (height : ℕ) (steps piece : List ℕ) : Type 0 where
   pub few : many ≤ 128
   pub room : Fits many height own steps
   pub no-fault : rowsFault many (λ (g : ℕ). getD own g 0) trace count (rowsOf piece) ≡ 0
-
--- the first n lines of height words are those of the gates, without constants: a path, then zeros
-pub record Blanks (height : ℕ) (bits steps lines : List ℕ) (n : ℕ) : Type 0 where
-  pub room : height * n ≤ length lines
-  pub blanks : (g : ℕ) → g < n → padded height (drop (height * g) lines) ≡ padded height (digits (getD steps g 0) (getD bits g 0))
 
 -- the first records of a piece, `next` words in all, are the first `rows` lines of the stage, 64 words apart
 pub record Stages (height : ℕ) (bits steps piece stage : List ℕ) (next rows : ℕ) : Type 0 where

@@ -1,36 +1,17 @@
--- What the quick tests of a whole piece of cells, and of all of scratch, ask of each word. They may fail where nothing is wrong: then the words are asked one by one.
+-- What the quick test of all of scratch asks of each variable. It may fail where nothing is wrong: then the variables are asked one by one.
 --
--- Main definitions: `Named`, `Within`. Main statements: `named-none`, `within-parts`.
-use mathlib.Core.Path.{_≡_, refl, subst}
+-- Main definition: `Within`. Main statement: `within-fine`.
+use mathlib.Core.Path.{_≡_, refl}
 use mathlib.Core.Bool.{Bool, true, false}
-use mathlib.Core.List.{List, [], _∷_}
-use Prim.Native.Nat.{ℕ, zero, suc, _+_, _-_, _*_, _<_, _≤_}
-use native.Mathlib.Decide.{decLt}
+use mathlib.Core.List.{List}
+use Prim.Native.Nat.{ℕ, zero, suc, _+_, _*_, _<_}
 use native.Mathlib.Omega.{arith}
-use lib.ListN.{length, getD}
+use lib.ListN.{getD}
 use lib.Dec.{eqb}
-use borrow.Author.Tests.{lt-ltb, eq-eqb}
+use borrow.Author.Tests.{lt-ltb}
 use Rattle.base.specs.Pick.{pick}
 use Rattle.field.specs.Field.{p}
-use Rattle.pieces.specs.Cells.{placeholder, indexOf, cellFault, cellsFault}
-use Rattle.pieces.specs.CellLaws.{cell-still, cell-good}
 use Rattle.pieces.specs.Finishing.{everyFrom, variableFine, scratchFine}
-use Rattle.pieces.specs.Records.{firstFault}
-
--- the word at place j is a placeholder or the index of a variable
-abbrev pub Named : ℕ → List ℕ → ℕ → Type 0
-Named vars ws j = getD ws j 0 < placeholder → indexOf (getD ws j 0) < vars
-
--- words that are all so have no fault in cells of the section
-pub named-none : (total vars k : ℕ) (ws : List ℕ) → ((j : ℕ) → j < length ws → Named vars ws j) → k + length ws ≤ total → cellsFault total vars k ws ≡ 0
-unfolding firstFault
-named-none total vars k [] h room = refl
-named-none total vars k (w ∷ ws) h room =
-    rw (eq-eqb (cellFault total vars k w) 0 (fine (decLt w placeholder))) (named-none total vars (suc k) ws (λ j l. h (suc j) (omega arith)) (omega arith))
-  where
-    fine : Dec (w < placeholder) → cellFault total vars k w ≡ 0
-    fine (yes l) = cell-good total vars k w (omega arith) l (h 0 (omega arith) l)
-    fine (no l) = cell-still total vars k w (omega arith) (omega arith)
 
 -- a variable's value is below p and its first cell one of `cells`, whether it is seen or not
 abbrev pub Within : ℕ → List ℕ → ℕ → Type 0
@@ -50,15 +31,6 @@ unfolding everyFrom
 within-from cells scratch zero v h = refl
 within-from cells scratch (suc m) v h = rw (within-one cells v scratch (h v (omega arith))) (within-from cells scratch m (suc v) (λ i l. h i (omega arith)))
 
-within-fine : (vars cells : ℕ) (scratch : List ℕ) → ((v : ℕ) → v < vars → Within cells scratch v) → scratchFine vars cells scratch ≡ true
+pub within-fine : (vars cells : ℕ) (scratch : List ℕ) → ((v : ℕ) → v < vars → Within cells scratch v) → scratchFine vars cells scratch ≡ true
 unfolding scratchFine
 within-fine vars cells scratch h = within-from cells scratch vars 0 (λ i l. h i (omega arith))
-
--- tested in two parts, the later variables first
-pub within-parts : (vars front cells : ℕ) (scratch : List ℕ) → ((v : ℕ) → v < vars - front → Within cells scratch (front + v))
-    → ((v : ℕ) → v < front → Within cells scratch (0 + v)) → scratchFine vars cells scratch ≡ true
-within-parts vars front cells scratch late early = within-fine vars cells scratch (λ v l. go v l (decLt v front))
-  where
-    go : (v : ℕ) → v < vars → Dec (v < front) → Within cells scratch v
-    go v l (yes h) = subst (Within cells scratch) (omega arith) (early v h)
-    go v l (no h) = subst (Within cells scratch) (omega arith) (late (v - front) (omega arith))

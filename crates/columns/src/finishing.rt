@@ -7,7 +7,6 @@ ghost use lib.ListN.{length};
 ghost use Rattle.base.specs.Quarters.{Fourfold};
 ghost use Rattle.columns.specs.Quick.{Within};
 ghost use Rattle.pieces.specs.Finishing.{allUsed, variableFine, scratchFine, writeBack, finishFrom};
-use crate::records::lesser;
 
 // Whether each of the `many` gates is in some row.
 pub(crate) fn all_used(many: u64, used: &[u64; 128]) -> bool
@@ -84,17 +83,17 @@ fn four_within(cells: u64, v: usize, step: usize, scratch: &[u64]) -> bool
     false
 }
 
-// Whether each of `many` variables from number `from` on is so, as after opening and cells, which leave
-// an unseen variable's words 0. Four quarters are walked side by side, as in the test for words below p.
-fn all_within(from: usize, many: usize, cells: u64, scratch: &[u64]) -> bool
-    requires { ⌜ (from + many ≤ 1048576) × (2 * (from + many) ≤ length (now scratch)) ⌝ }
-    ensures { λ r. ⌜ (r ≡ true → (v : ℕ) → v < many → Within cells (now (scratch .entry)) (from + v)) ⌝ }
+// Whether each of `many` variables is so, as after opening and cells, which leave an unseen variable's
+// words 0. Four quarters are walked side by side, as in the test for words below p.
+fn all_within(many: usize, cells: u64, scratch: &[u64]) -> bool
+    requires { ⌜ (many ≤ 1048576) × (2 * many ≤ length (now scratch)) ⌝ }
+    ensures { λ r. ⌜ (r ≡ true → (v : ℕ) → v < many → Within cells (now (scratch .entry)) v) ⌝ }
 {
     let step = many / 4;
     let turns = many - 3 * step;
     let mut v = 0;
     while v < turns {
-        if four_within(cells, from + v, step, scratch) {
+        if four_within(cells, v, step, scratch) {
             v = v + 1;
         } else {
             return false;
@@ -103,21 +102,13 @@ fn all_within(from: usize, many: usize, cells: u64, scratch: &[u64]) -> bool
     true
 }
 
-// How many variables are tested last. Their words, a megabyte, are still in the cache when the values
-// are written, which begins with them.
-const FRONT: usize = 65536;
-
 // Whether all variables are fine.
 pub(crate) fn scratch_fine(variables: u64, cells: u64, scratch: &[u64]) -> bool
     requires { ⌜ (variables ≤ 1048576) × (2 * variables ≤ length (now scratch)) ⌝ }
     ensures { λ r. ⌜ r ≡ scratchFine variables cells (now (scratch .entry)) ⌝ }
 {
-    let many = variables as usize;
-    let front = lesser(many, FRONT);
-    if all_within(front, many - front, cells, scratch) {
-        if all_within(0, front, cells, scratch) {
-            return true;
-        }
+    if all_within(variables as usize, cells, scratch) {
+        return true;
     }
     each_fine(variables, cells, scratch)
 }

@@ -15,8 +15,7 @@ use crate::finishing::all_used;
 use crate::finishing::scratch_fine;
 use crate::finishing::write_firsts;
 use crate::opening::clear;
-use crate::opening::clear_again;
-use crate::records::write_many;
+use crate::records::write_words;
 use crate::row_tests::test_rows;
 use crate::rows::write_rows;
 use crate::s_words::s_words_fault;
@@ -32,9 +31,6 @@ pub const NEVER: u64 = 0;
 pub const OPEN: u64 = 1;
 
 pub const FINISHED: u64 = 2;
-
-// So many words of copies and scratch, 32 MB, are more than a cache keeps of what opening writes.
-const LARGE: usize = 4194304;
 
 // A plan, how much of each section came in so far, a mark for each gate that is in a row, and
 // the phase.
@@ -212,9 +208,6 @@ impl Intake {
         clear(rooms.scratch, scratch);
         // last, since rows are what mostly comes next: they find these words in the cache
         clear(rooms.constants, constants);
-        let large = LARGE < rooms.copies + rooms.scratch;
-        clear_again(large, rooms.tables, tables);
-        clear_again(large, rooms.constants, constants);
         Taken {
             number: 0,
             state: Intake::start(plan, OPEN),
@@ -280,7 +273,7 @@ impl Intake {
                 return refused(fault, self);
             }
             let at = (plan.constants * plan.trace + self.s_words) as usize;
-            write_many(at, piece, constants);
+            write_words(at, piece, constants);
             self.s_words = self.s_words + piece.len() as u64;
             return Taken {
                 number: 0,

@@ -15,14 +15,3 @@ pub(crate) fn clear(many: usize, buffer: &mut [u64])
         i = i + 1;
     }
 }
-
-// The same again where opening has written more than a cache holds: words that are written once are the first
-// to be driven out of it, and the calls that come next should find theirs there. Nothing changes.
-pub(crate) fn clear_again(large: bool, many: usize, buffer: &mut [u64])
-    requires { ⌜ (many ≤ length (now buffer)) × (now buffer ≡ cleared many (now buffer)) ⌝ }
-    ensures { λ _. ⌜ now (buffer .exit) ≡ now (buffer .entry) ⌝ }
-{
-    if large {
-        clear(many, buffer);
-    }
-}

@@ -60,52 +60,6 @@ pub(crate) fn write_words(at: usize, words: &[u64], buffer: &mut [u64])
     }
 }
 
-// A few words at consecutive places, two at a time: for so few a call of the machine's own copy, which the
-// compiler makes of the plain loop, takes longer.
-pub(crate) fn write_few(at: usize, words: &[u64], buffer: &mut [u64])
-    requires { ⌜ at + length (now words) ≤ length (now buffer) ⌝ }
-    ensures { λ _. ⌜ now (buffer .exit) ≡ put 1 (now (buffer .entry)) at (now (words .entry)) ⌝ }
-{
-    let mut i = 0;
-    while i + 1 < words.len() {
-        let first = words[i];
-        let second = words[i + 1];
-        buffer[at + i] = first;
-        buffer[at + i + 1] = second;
-        i = i + 2;
-    }
-    if i < words.len() {
-        buffer[at + i] = words[i];
-    }
-}
-
-// The lesser of two numbers.
-pub(crate) fn lesser(x: usize, y: usize) -> usize
-    ensures { λ r. ⌜ (r ≤ x) × (r ≤ y) × (0 < x → 0 < y → 0 < r) ⌝ }
-{
-    if x < y {
-        return x;
-    }
-    y
-}
-
-// Many words at consecutive places, by way of a few kilobytes of our own: of two lent slices the
-// compiler doesn't know that they lie apart, and copies 16 bytes at a time; to and from our own words it
-// copies by the widest means that the machine has.
-pub(crate) fn write_many(at: usize, words: &[u64], buffer: &mut [u64])
-    requires { ⌜ at + length (now words) ≤ length (now buffer) ⌝ }
-    ensures { λ _. ⌜ now (buffer .exit) ≡ put 1 (now (buffer .entry)) at (now (words .entry)) ⌝ }
-{
-    let mut own = [0; 2048];
-    let mut i = 0;
-    while i < words.len() {
-        let n = lesser(2048, words.len() - i);
-        write_words(0, &words[i..i + n], &mut own);
-        write_words(at + i, &own[0..n], buffer);
-        i = i + n;
-    }
-}
-
 // The first digits of a word at consecutive places, the least first: a path's steps from the root on.
 pub(crate) fn write_path(at: usize, bits: u64, many: u64, buffer: &mut [u64])
     requires { ⌜ at + many ≤ length (now buffer) ⌝ }

@@ -1,10 +1,7 @@
 // S words: the specialised constant columns.
 ghost use mathlib.Core.Path.{_≡_};
-ghost use Prim.Native.Nat.{ℕ, _+_, _*_, _≤_};
-ghost use lib.ListN.{length};
-ghost use Rattle.field.specs.Field.{p};
+ghost use Prim.Native.Nat.{_≤_};
 ghost use Rattle.pieces.specs.SWords.{sWordFault, sWordsFault};
-use crate::records::all_below;
 
 // The number of one S word, 0 where it has no fault.
 fn s_word_fault(total: u64, at: u64, word: u64) -> u64
@@ -19,8 +16,8 @@ fn s_word_fault(total: u64, at: u64, word: u64) -> u64
     0
 }
 
-// The number of the first faulty word of a piece, found word by word.
-fn first_fault(total: u64, count: u64, piece: &[u64]) -> u64
+// The number of the first faulty word of a piece.
+pub(crate) fn s_words_fault(total: u64, count: u64, piece: &[u64]) -> u64
     requires { ⌜ (count ≤ total) × (total ≤ 4294967296) ⌝ }
     ensures { λ r. ⌜ r ≡ sWordsFault total count (now (piece .entry)) ⌝ }
 {
@@ -35,17 +32,4 @@ fn first_fault(total: u64, count: u64, piece: &[u64]) -> u64
         i = i + 1;
     }
     0
-}
-
-// The number of the first faulty word of a piece.
-pub(crate) fn s_words_fault(total: u64, count: u64, piece: &[u64]) -> u64
-    requires { ⌜ (count ≤ total) × (total ≤ 4294967296) ⌝ }
-    ensures { λ r. ⌜ r ≡ sWordsFault total count (now (piece .entry)) ⌝ }
-{
-    if piece.len() as u64 <= total - count {
-        if all_below(piece) {
-            return 0;
-        }
-    }
-    first_fault(total, count, piece)
 }

@@ -1,52 +1,163 @@
--- `columns::row_tests::test_rows` meets its contract: the words that the quick test leaves decide what the whole piece decides.
+-- `columns::row_tests::test_rows` meets its contract: as long as no fault was found, the records that are left decide what the whole piece decides (RowLoop).
 -- Assumes nothing.
-use borrow.Author.Needs.{needs}
-use mathlib.Core.Path.{sym, ap, _∙_}
 use mathlib.Core.List.{List}
-use Prim.Native.Nat.{ℕ, _+_}
-use lib.ListN.{length, getD}
-use Rattle.pieces.specs.Records.{rowsOf}
-use Rattle.pieces.specs.Rows.{rowsFault, marked}
+use borrow.Author.Needs.{needs}
+use mathlib.Core.Path.{_≡_, sym, ap, _∙_}
+use native.Mathlib.Omega.{arith}
+use Prim.Native.Nat.{ℕ, _+_, _-_, _<_, _≤_}
+use lib.ListN.{length, getD, take, drop}
+use mathlib.Core.Logic.{_≢_}
+use Rattle.pieces.specs.Records.{Read, cut, rowSize}
+use Rattle.pieces.specs.Front.{front}
+use Rattle.pieces.specs.Rows.{rowFault}
+use Rattle.pieces.specs.RecordLaws.{uncut}
+use Rattle.pieces.specs.FaultLaws.{RowFine, row-cut, row-fine}
 use Rattle.columns.proofs.Parts.{rest-is}
+use Rattle.columns.proofs.RowLoop.{Passed, passed-none, passed-next, passed-found, passed-fine, passed-count, passed-marks}
 use Rattle.columns.proofs.row_tests.test_rows.Statement.{statement}
 use Rattle.columns.proofs.row_tests.test_rows.Tie as tie
 
-quick-rows-requires : tie.Need-quick-rows-requires
-quick-rows-requires c κs = search needs
+-- a record's number, by the row and the record
+abbrev numbered : ℕ → List ℕ → ℕ → ℕ → Read → ℕ
+numbered many own trace = rowFault many (λ (g : ℕ). getD own g 0) trace
 
-mul-walk-rows : tie.Need-mul-walk-rows
-mul-walk-rows c = search needs
+abbrev Inv-loop : tie.InvT-loop
+Inv-loop many own trace count piece used₀ row₀ i₀ used row i = Passed many (λ (g : ℕ). getD own g 0) trace piece used₀ count used row i
 
-sub-walk-rows : tie.Need-sub-walk-rows
-sub-walk-rows c = search needs
+abbrev μ-loop : tie.MeasureT-loop
+μ-loop many own trace count piece used₀ row₀ i₀ used row i = length piece - i
 
-part-walk-rows-start : tie.Need-part-walk-rows-start
-part-walk-rows-start c = search needs
+loop-holds : tie.Need-loop-holds Inv-loop μ-loop
+loop-holds c =
+    let a = c .before .args in
+    passed-none (a .many) (λ (g : ℕ). getD (a .own .now) g 0) (a .trace) (a .piece .now) (a .used .now) (a .count) (omega (arith, c .before .pre))
 
-part-walk-rows-end : tie.Need-part-walk-rows-end
-part-walk-rows-end c = search needs
+mul-row-fault : tie.Need-mul-row-fault Inv-loop μ-loop
+mul-row-fault c = search needs
 
-walk-rows-requires : tie.Need-walk-rows-requires
-walk-rows-requires c κs = search needs
+sub-row-fault : tie.Need-sub-row-fault Inv-loop μ-loop
+sub-row-fault c = search needs
 
-returns : tie.Need-returns
+part-row-fault-start : tie.Need-part-row-fault-start Inv-loop μ-loop
+part-row-fault-start c = search needs
+
+part-row-fault-end : tie.Need-part-row-fault-end Inv-loop μ-loop
+part-row-fault-end c = search needs
+
+row-fault-requires : tie.Need-row-fault-requires Inv-loop μ-loop
+row-fault-requires c κs = c .before .before .before .before .pre .0
+
+-- the part that is handed over is the words from i on
+part : (c : tie.After-row-fault Inv-loop μ-loop) → let a = c .before .before .before .before .before .args in let l = c .before .before .before .loop in
+    c .row-fault .result ≡ numbered (a .many) (a .own .now) (a .trace) (l .row) (front rowSize (drop (l .i) (a .piece .now)))
+part c =
+    let a = c .before .before .before .before .before .args in
+    let l = c .before .before .before .loop in
+    c .row-fault .ensures ∙ ap (λ (rest : List ℕ). numbered (a .many) (a .own .now) (a .trace) (l .row) (front rowSize rest)) (rest-is (a .piece .now) (l .i))
+
+-- a record without a fault is whole
+record Good (many : ℕ) (own : List ℕ) (trace row i : ℕ) (piece : List ℕ) : Type 0 where
+  pub two : i + 1 < length piece
+  pub fits : getD piece (i + 1) 0 ≤ length piece - (i + 2)
+  pub fine : RowFine many (λ (g : ℕ). getD own g 0) trace row (getD piece i 0) (getD piece (i + 1) 0) (take (getD piece (i + 1) 0) (drop (i + 2) piece))
+
+good-row : (many : ℕ) (own : List ℕ) (trace row i : ℕ) (piece : List ℕ) → numbered many own trace row (front rowSize (drop i piece)) ≡ 0 → Good many own trace row i piece
+good-row many own trace row i piece e =
+    let bad : numbered many own trace row cut ≢ 0 = λ z. omega (arith, z, row-cut many (λ (g : ℕ). getD own g 0) trace row) in
+    let u = uncut rowSize piece i (λ q. bad (ap (numbered many own trace row) (sym q) ∙ e)) in
+    record { two = u .two; fits = u .fits; fine = row-fine many (λ (g : ℕ). getD own g 0) trace row (getD piece i 0) (getD piece (i + 1) 0) _ (ap (numbered many own trace row) (sym (u .is)) ∙ e) }
+
+good : (c : tie.Else1 Inv-loop μ-loop) → let a = c .before .before .before .before .before .before .args in let l = c .before .before .before .before .loop in Good (a .many) (a .own .now) (a .trace) (l .row) (l .i) (a .piece .now)
+good c =
+    let a = c .before .before .before .before .before .before .args in
+    let l = c .before .before .before .before .loop in
+    good-row (a .many) (a .own .now) (a .trace) (l .row) (l .i) (a .piece .now) (sym (part (c .before)) ∙ c .if1 .left)
+
+returns : tie.Need-returns Inv-loop μ-loop
 returns c =
     let a = c .before .before .before .before .before .before .args in
-    let q = c .before .before .before .quick-rows in
-    let w = c .walk-rows in
-    let left = rest-is (a .piece .now) (q .result .next) in (
-      w .ensures .0 ∙ ap (λ (l : List ℕ). rowsFault (a .many) (λ (g : ℕ). getD (a .own .now) g 0) (a .trace) (q .result .rows) (rowsOf l)) left ∙ sym (q .ensures .fault),
-      λ z. (w .ensures .1 z .0 ∙ ap (λ (l : List ℕ). q .result .rows + length (rowsOf l)) left ∙ sym (q .ensures .counted), w .ensures .1 z .1 ∙ ap (λ (l : List ℕ). marked (q .last .1 .1 .1 .1 .1 .0) (rowsOf l)) left ∙ sym (q .ensures .marks)),
+    let l = c .before .before .before .before .loop in
+    let e = part (c .before) in (
+      e ∙ sym (passed-found (a .many) (λ (g : ℕ). getD (a .own .now) g 0) (a .trace) (a .piece .now) (a .used .now) (a .count) (l .used) (l .row) (l .i) (l .inv) (omega arith) (λ z. c .if1 .taken (e ∙ z))),
+      λ z. absurd (c .if1 .taken z),
+    )
+
+mul-g : tie.Need-mul-g Inv-loop μ-loop
+mul-g c = omega (arith, good c .two)
+
+shared-slice-read-g : tie.Need-shared-slice-read-g Inv-loop μ-loop
+shared-slice-read-g c = omega (arith, good (c .before))
+
+mul-used : tie.Need-mul-used Inv-loop μ-loop
+mul-used c = omega (arith, good (c .before) .fine, c .before .before .before .before .before .before .before .pre .0)
+
+element-write-used : tie.Need-element-write-used Inv-loop μ-loop
+element-write-used c = omega (arith, good (c .before) .fine, c .before .before .before .before .before .before .before .pre .0)
+
+add-row : tie.Need-add-row Inv-loop μ-loop
+add-row c = omega (arith, good (c .before) .fine, c .before .before .before .before .before .before .before .pre .2)
+
+add-i : tie.Need-add-i Inv-loop μ-loop
+add-i c = omega (arith, good (c .before))
+
+add-i-2 : tie.Need-add-i-2 Inv-loop μ-loop
+add-i-2 c = omega (arith, good (c .before))
+
+mul-i : tie.Need-mul-i Inv-loop μ-loop
+mul-i c = omega (arith, good (c .before))
+
+shared-slice-read-i : tie.Need-shared-slice-read-i Inv-loop μ-loop
+shared-slice-read-i c = omega (arith, good (c .before .before))
+
+add-i-3 : tie.Need-add-i-3 Inv-loop μ-loop
+add-i-3 c = omega (arith, good (c .before .before))
+
+loop-less : tie.Need-loop-less Inv-loop μ-loop
+loop-less c = omega (arith, good (c .before .before))
+
+loop-again : tie.Need-loop-again Inv-loop μ-loop
+loop-again c =
+    let a = c .before .before .before .before .before .before .before .before .args in
+    let l = c .before .before .before .before .before .before .loop in
+    let t = good (c .before .before) in
+    passed-next (a .many) (λ (g : ℕ). getD (a .own .now) g 0) (a .trace) (a .piece .now) (a .used .now) (a .count) (l .used) (l .row) (l .i) (l .inv) (t .two) (t .fits) (t .fine)
+
+returns-2 : tie.Need-returns-2 Inv-loop μ-loop
+returns-2 c =
+    let a = c .before .before .before .args in
+    let l = c .before .loop in
+    let own : ℕ → ℕ = λ (g : ℕ). getD (a .own .now) g 0 in
+    let done : length (a .piece .now) ≤ l .i = c .loop-test .left in (
+      sym (passed-fine (a .many) own (a .trace) (a .piece .now) (a .used .now) (a .count) (l .used) (l .row) (l .i) (l .inv) done),
+      λ _. (
+        passed-count (a .many) own (a .trace) (a .piece .now) (a .used .now) (a .count) (l .used) (l .row) (l .i) (l .inv) done,
+        passed-marks (a .many) own (a .trace) (a .piece .now) (a .used .now) (a .count) (l .used) (l .row) (l .i) (l .inv) done,
+      ),
     )
 
 pub test-rows-spec : {M : Type 1} → statement M
 test-rows-spec =
     tie.close
     (tie.spec
-    quick-rows-requires
-    mul-walk-rows
-    sub-walk-rows
-    part-walk-rows-start
-    part-walk-rows-end
-    walk-rows-requires
-    returns)
+    Inv-loop
+    μ-loop
+    loop-holds
+    mul-row-fault
+    sub-row-fault
+    part-row-fault-start
+    part-row-fault-end
+    row-fault-requires
+    returns
+    mul-g
+    shared-slice-read-g
+    mul-used
+    element-write-used
+    add-row
+    add-i
+    add-i-2
+    mul-i
+    shared-slice-read-i
+    add-i-3
+    loop-less
+    loop-again
+    returns-2)

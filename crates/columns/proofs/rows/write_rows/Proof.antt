@@ -12,21 +12,15 @@ use Rattle.columns.proofs.rows.write_rows.Statement.{statement}
 use Rattle.columns.proofs.rows.write_rows.Tie as tie
 
 abbrev Inv-loop : tie.InvT-loop
-Inv-loop height trace count piece constants₀ lines ready bits steps stage₀ row₀ i₀ constants stage row i = Writing height trace count piece constants₀ bits steps constants stage row i
+Inv-loop height trace count piece constants₀ bits steps stage₀ row₀ i₀ constants stage row i = Writing height trace count piece constants₀ bits steps constants stage row i
 
 abbrev μ-loop : tie.MeasureT-loop
-μ-loop height trace count piece constants₀ lines ready bits steps stage₀ row₀ i₀ constants stage row i = length piece - i
-
-ready-lines-requires : tie.Need-ready-lines-requires Inv-loop μ-loop
-ready-lines-requires c κs = let s = c .before .before .before in ((s .pre .0 .2, s .pre .0 .1, refl), s .pre .1 .0)
+μ-loop height trace count piece constants₀ bits steps stage₀ row₀ i₀ constants stage row i = length piece - i
 
 loop-holds : tie.Need-loop-holds Inv-loop μ-loop
 loop-holds c =
-    let a = c .before .before .before .before .before .before .args in
+    let a = c .before .before .before .before .args in
     writing-begin (a .height) (a .trace) (a .count) (a .piece .now) (a .constants .now) (a .gates .bits) (a .gates .steps) _ refl
-
-slice-aggregate-stage-rows : tie.Need-slice-aggregate-stage-rows Inv-loop μ-loop
-slice-aggregate-stage-rows c = sym (c .before .before .before .before .before .before .before .ready-lines .ensures .1)
 
 mul-stage-rows : tie.Need-mul-stage-rows Inv-loop μ-loop
 mul-stage-rows c = search needs
@@ -42,9 +36,9 @@ part-stage-rows-end c = search needs
 
 stage-rows-requires : tie.Need-stage-rows-requires Inv-loop μ-loop
 stage-rows-requires c κs =
-    let s = c .before .before .before .before .before .before .before .before .before .before .before .before .before in
+    let s = c .before .before .before .before .before .before .before .before .before .before in
     let a = s .args in
-    let l = c .before .before .before .before .before .before .loop in
+    let l = c .before .before .before .before .before .loop in
     let own : ℕ → ℕ = λ (g : ℕ). getD (a .gates .own) g 0 in
     let q : Stageable (a .height) (a .gates .steps) (drop (l .i) (a .piece .now)) =
     record {
@@ -56,12 +50,12 @@ stage-rows-requires c κs =
       room = s .pre .1 .0;
       no-fault = l .inv .fine (a .gates .many) own (s .pre .1 .1);
     } in
-    ((s .pre .0 .1, l .inv .staged), (c .before .before .before .before .before .before .before .before .before .ready-lines .ensures .0, rw (rest-is (a .piece .now) (l .i)) q))
+    ((s .pre .0 .1, l .inv .staged), rw (rest-is (a .piece .now) (l .i)) q)
 
 -- what is staged is the first of the records that are left
 first : (c : tie.After-stage-rows Inv-loop μ-loop)
-    → Stages (c .before .before .before .before .before .before .before .before .before .before .before .before .before .before .args .height) (c .before .before .before .before .before .before .before .before .before .before .before .before .before .before .args .gates .bits) (c .before .before .before .before .before .before .before .before .before .before .before .before .before .before .args .gates .steps) (drop (c .before .before .before .before .before .before .before .loop .i) (c .before .before .before .before .before .before .before .before .before .before .before .before .before .before .args .piece .now)) (c .stage-rows .last .1 .1 .1 .1 .1 .1 .0) (c .stage-rows .result .next) (c .stage-rows .result .rows)
-first c = rw (rest-is (c .before .before .before .before .before .before .before .before .before .before .before .before .before .before .args .piece .now) (c .before .before .before .before .before .before .before .loop .i)) at (c .stage-rows .ensures)
+    → Stages (c .before .before .before .before .before .before .before .before .before .before .before .args .height) (c .before .before .before .before .before .before .before .before .before .before .before .args .gates .bits) (c .before .before .before .before .before .before .before .before .before .before .before .args .gates .steps) (drop (c .before .before .before .before .before .before .loop .i) (c .before .before .before .before .before .before .before .before .before .before .before .args .piece .now)) (c .stage-rows .last .1 .1 .1 .1 .0) (c .stage-rows .result .next) (c .stage-rows .result .rows)
+first c = rw (rest-is (c .before .before .before .before .before .before .before .before .before .before .before .args .piece .now) (c .before .before .before .before .before .before .loop .i)) at (c .stage-rows .ensures)
 
 record Turn (len trace i row next rows : ℕ) : Type 0 where
   pub some : 0 < next
@@ -70,13 +64,13 @@ record Turn (len trace i row next rows : ℕ) : Type 0 where
   pub few : rows ≤ 32
   pub room : row + rows ≤ trace
 
-turn : (c : tie.After-stage-rows Inv-loop μ-loop) → Turn (length (c .before .before .before .before .before .before .before .before .before .before .before .before .before .before .args .piece .now)) (c .before .before .before .before .before .before .before .before .before .before .before .before .before .before .args .trace) (c .before .before .before .before .before .before .before .loop .i) (c .before .before .before .before .before .before .before .loop .row) (c .stage-rows .result .next) (c .stage-rows .result .rows)
+turn : (c : tie.After-stage-rows Inv-loop μ-loop) → Turn (length (c .before .before .before .before .before .before .before .before .before .before .before .args .piece .now)) (c .before .before .before .before .before .before .before .before .before .before .before .args .trace) (c .before .before .before .before .before .before .loop .i) (c .before .before .before .before .before .before .loop .row) (c .stage-rows .result .next) (c .stage-rows .result .rows)
 turn c =
-    let s = c .before .before .before .before .before .before .before .before .before .before .before .before .before .before in
+    let s = c .before .before .before .before .before .before .before .before .before .before .before in
     let a = s .args in
-    let l = c .before .before .before .before .before .before .before .loop in
+    let l = c .before .before .before .before .before .before .loop in
     let p = first c in
-    let h : l .i < length (a .piece .now) = c .before .before .before .before .before .before .loop-test .taken in
+    let h : l .i < length (a .piece .now) = c .before .before .before .before .before .loop-test .taken in
     let n = length-drop (l .i) (a .piece .now) in
     let own : ℕ → ℕ = λ (g : ℕ). getD (a .gates .own) g 0 in
     record {
@@ -92,13 +86,13 @@ slice-aggregate-write-lines c = sym (first (c .before) .long)
 
 write-lines-requires : tie.Need-write-lines-requires Inv-loop μ-loop
 write-lines-requires c κs =
-    let s = c .before .before .before .before .before .before .before .before .before .before .before .before .before .before .before .before in
-    let l = c .before .before .before .before .before .before .before .before .before .loop in
+    let s = c .before .before .before .before .before .before .before .before .before .before .before .before .before in
+    let l = c .before .before .before .before .before .before .before .before .loop in
     let t = turn (c .before .before) in
     ((s .pre .0 .1, omega arith, s .pre .0 .0, t .room), (omega (arith, t .few, first (c .before .before) .long), omega (arith, s .pre .0 .3, l .inv .long)))
 
 add-row : tie.Need-add-row Inv-loop μ-loop
-add-row c = omega (arith, turn (c .before .before .before .before .before .before), c .before .before .before .before .before .before .before .before .before .before .before .before .before .before .before .before .before .before .before .before .pre .0 .0)
+add-row c = omega (arith, turn (c .before .before .before .before .before .before), c .before .before .before .before .before .before .before .before .before .before .before .before .before .before .before .before .before .pre .0 .0)
 
 add-i : tie.Need-add-i Inv-loop μ-loop
 add-i c = omega (arith, turn (c .before .before .before .before .before .before .before))
@@ -108,8 +102,8 @@ loop-less c = omega (arith, turn (c .before .before .before .before .before .bef
 
 loop-again : tie.Need-loop-again Inv-loop μ-loop
 loop-again c =
-    let a = c .before .before .before .before .before .before .before .before .before .before .before .before .before .before .before .before .before .before .before .before .before .args in
-    let l = c .before .before .before .before .before .before .before .before .before .before .before .before .before .before .loop in
+    let a = c .before .before .before .before .before .before .before .before .before .before .before .before .before .before .before .before .before .before .args in
+    let l = c .before .before .before .before .before .before .before .before .before .before .before .before .before .loop in
     let w = c .before .before .before .before .write-lines in
     writing-next (a .height) (a .trace) (a .count) (a .piece .now) (a .constants .now) (a .gates .bits) (a .gates .steps) (l .constants) (l .stage) (l .row) (l .i) (l .inv) _ _ _ (first (c .before .before .before .before .before .before .before)) _ (w .kept .1 .1 .1 .1 .1 .1 .0) (w .ensures)
 
@@ -118,7 +112,7 @@ same-length c = c .before .loop .inv .long
 
 returns : tie.Need-returns Inv-loop μ-loop
 returns c =
-    let s = c .before .before .before .before .before .before .before .before in
+    let s = c .before .before .before .before .before .before in
     let a = s .args in
     let l = c .before .loop in
     λ path q.
@@ -131,9 +125,7 @@ write-rows-spec =
     (tie.spec
     Inv-loop
     μ-loop
-    ready-lines-requires
     loop-holds
-    slice-aggregate-stage-rows
     mul-stage-rows
     sub-stage-rows
     part-stage-rows-start

@@ -59,7 +59,7 @@ mul-cells-fault : tie.Need-mul-cells-fault
 mul-cells-fault c = let w = fine (c .before .before .before .before .before .before .before .before .before .before .before .before .before .before) in omega (arith, mul-le-mul (w .ranges .columns) (w .ranges .long))
 
 cells-fault-requires : tie.Need-cells-fault-requires
-cells-fault-requires c κs = let w = fine (c .before .before .before .before .before .before .before .before .before .before .before .before .before .before) in (omega arith, omega (arith, mul-le-mul (w .ranges .columns) (w .ranges .long)), omega (arith, w .variables))
+cells-fault-requires c κs = let w = fine (c .before .before .before .before .before .before .before .before .before .before .before .before .before .before) in (omega arith, omega (arith, mul-le-mul (w .ranges .columns) (w .ranges .long)))
 
 returns-3 : tie.Need-returns-3
 returns-3 c =

@@ -69,7 +69,7 @@ cells-fault-requires : tie.Need-cells-fault-requires
 cells-fault-requires c κs =
     let q = c .before .before .before .before .before .before .before .before .before .before .before .before .args .self .plan in
     let w = fine (c .before .before .before .before .before .before .before) in
-    (counts (c .before .before .before .before .before .before .before) .cells-in, omega (arith, small (q .copy) (q .trace) 64 (w .ranges .columns) (w .ranges .long)), omega (arith, w .variables))
+    (counts (c .before .before .before .before .before .before .before) .cells-in, omega (arith, small (q .copy) (q .trace) 64 (w .ranges .columns) (w .ranges .long)))
 
 -- the piece's number is its first faulty word's
 own : (c : tie.After-cells-fault) → let s = c .before .before .before .before .before .before .before .before .before .before .before .before .before .args .self in cellsNumber (settingOf (s .plan)) (stateOf s) (c .before .before .before .before .before .before .before .before .before .before .before .before .before .args .piece .now) (cols (c .before .before .before .before .before .before .before .before .before .before .before .before .before .args .copies .now) (c .before .before .before .before .before .before .before .before .before .before .before .before .before .args .scratch .now)) ≡ c .cells-fault .result

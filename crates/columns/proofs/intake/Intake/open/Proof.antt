@@ -3,11 +3,10 @@
 use borrow.Author.Needs.{needs}
 use mathlib.Core.Path.{_≡_, refl, sym, ap, _∙_}
 use mathlib.Core.Bool.{true}
-use mathlib.Core.List.{List, [], _∷_}
+use mathlib.Core.List.{List}
 use native.Mathlib.Omega.{arith}
-use Prim.Native.Nat.{ℕ, zero, suc, _*_, _≤_}
-use native.Mathlib.Nat.{not-suc-le-zero, le-of-suc-le-suc, mul-le-mul}
-use lib.ListN.{length, drop, replicate, length-append, length-replicate}
+use Prim.Native.Nat.{ℕ, _*_, _≤_}
+use lib.ListN.{length}
 use borrow.Author.Tests.{le-leb}
 use Rattle.labels.specs.Ranges.{rangesFit}
 use Rattle.labels.specs.Labels.{searchNumber, fillNumber}
@@ -153,37 +152,6 @@ clear-requires-3 c κs =
     let b = storeOf (a .constants .now) (a .copies .now) (a .scratch .now) (a .tables .now) in
     omega (arith, opened-long q b (room (c .before .before .before .before .before .before .before .before .before .before .before .before .before .before .before)) .0, c .before .before .before .before .before .before .before .before .before .rooms-of .ensures .constants-are)
 
--- the words of copies and scratch are few
-add-large : tie.Need-add-large
-add-large c =
-    let q = c .before .before .before .before .before .before .before .before .before .before .before .before .before .before .before .before .before .before .before .before .before .before .before .before .before .before .before .before .before .before .before .before .before .args .plan in
-    let w = sound q (fine (c .before .before .before .before .before .before .before .before .before .before .before .before .before .before .before .before .before .before .before .before .before .before .before .before .before)) in
-    let r = c .before .before .before .before .before .before .before .before .before .before .before .before .before .rooms-of .ensures in
-    let m : q .copy * q .trace ≤ 64 * 65536 = mul-le-mul (w .ranges .columns) (w .ranges .long) in
-    omega (arith, m, r .copies-are, r .scratch-is, w .variables)
-
--- what is cleared twice is cleared once
-cleared-twice : (n : ℕ) (b : List ℕ) → n ≤ length b → cleared n (cleared n b) ≡ cleared n b
-cleared-twice zero b h = refl
-cleared-twice (suc n) [] h = absurd (not-suc-le-zero h)
-cleared-twice (suc n) (x ∷ b) h = ap (λ (l : List ℕ). 0 ∷ l) (cleared-twice n b (le-of-suc-le-suc h))
-
-cleared-long : (n : ℕ) (b : List ℕ) → n ≤ length (cleared n b)
-cleared-long n b = omega (arith, length-append (replicate n 0) (drop n b), length-replicate {A = ℕ} n 0)
-
-again : (n : ℕ) (b d : List ℕ) → n ≤ length b → d ≡ cleared n b → (n ≤ length d) × (d ≡ cleared n d)
-again n b d h e = (rw e (cleared-long n b), e ∙ sym (cleared-twice n b h) ∙ ap (cleared n) (sym e))
-
-clear-again-requires : tie.Need-clear-again-requires
-clear-again-requires c κs =
-    let a = c .before .before .before .before .before .before .before .before .before .before .before .before .before .before .before .before .before .before .before .before .before .before .before .before .before .before .before .before .before .before .before .before .before .before .args in
-    again _ (a .tables .now) _ (clear-requires (c .before .before .before .before .before .before .before .before .before .before .before .before .before) κs) (c .before .before .before .before .before .before .before .before .before .before .before .before .clear .ensures)
-
-clear-again-requires-2 : tie.Need-clear-again-requires-2
-clear-again-requires-2 c κs =
-    let a = c .before .before .before .before .before .before .before .before .before .before .before .before .before .before .before .before .before .before .before .before .before .before .before .before .before .before .before .before .before .before .before .before .before .before .before .before .before .before .args in
-    again _ (a .constants .now) _ (clear-requires-3 (c .before .before .before .before .before .before .before .before .before) κs) (c .before .before .before .before .before .before .before .before .clear3 .ensures)
-
 start-requires-2 : tie.Need-start-requires-2
 start-requires-2 c κs = search needs
 
@@ -191,13 +159,13 @@ same-length-9 : tie.Need-same-length-9
 same-length-9 c = search needs
 
 same-length-10 : tie.Need-same-length-10
-same-length-10 c = c .before .before .before .before .before .before .before .before .before .before .before .before .before .before .before .before .before .before .before .before .before .before .before .before .before .before .fill-labels .kept .1 .1 .0
+same-length-10 c = c .before .before .before .before .before .before .before .before .before .before .before .before .before .before .before .before .before .fill-labels .kept .1 .1 .0
 
 same-length-11 : tie.Need-same-length-11
 same-length-11 c = search needs
 
 same-length-12 : tie.Need-same-length-12
-same-length-12 c = c .before .before .before .before .before .before .before .clear-again .kept .1 .1 .0 ∙ c .before .before .before .before .before .before .before .before .before .before .before .before .before .before .before .before .before .before .before .before .clear .kept .1 .0
+same-length-12 c = search needs
 
 four : {a a' b b' s s' t t' : List ℕ} → a ≡ a' → b ≡ b' → s ≡ s' → t ≡ t' → storeOf a b s t ≡ storeOf a' b' s' t'
 four e f g h = cc
@@ -207,16 +175,16 @@ as-taken e = ap (refusedWith 0) e
 
 returns-4 : tie.Need-returns-4
 returns-4 c =
-    let a = c .before .before .before .before .before .before .before .before .before .before .before .before .before .before .before .before .before .before .before .before .before .before .before .before .before .before .before .before .before .before .before .before .before .before .before .before .before .before .before .before .before .before .args in
+    let a = c .before .before .before .before .before .before .before .before .before .before .before .before .before .before .before .before .before .before .before .before .before .before .before .before .before .before .before .before .before .before .before .before .before .args in
     let q = a .plan in
     let b = storeOf (a .constants .now) (a .copies .now) (a .scratch .now) (a .tables .now) in
-    let f = c .before .before .before .before .before .before .before .before .before .before .before .before .before .before .before .before .before .before .before .before .before .before .before .before .before .before .fill-labels in
-    let r = c .before .before .before .before .before .before .before .before .before .before .before .before .before .before .before .before .before .before .before .before .before .before .rooms-of .ensures in
-    let k = open-taken q b (number-is (c .before .before .before .before .before .before .before .before .before .before .before .before .before .before .before .before .before .before .before .before .before .before .before .before .before .before) ∙ c .before .before .before .before .before .before .before .before .before .before .before .before .before .before .before .before .before .before .before .before .before .before .before .if3 .left) in
-    let labelled = f .ensures .1 ∙ written-is (q .trace) (q .copy) (a .copies .now) (sym (f .ensures .0) ∙ c .before .before .before .before .before .before .before .before .before .before .before .before .before .before .before .before .before .before .before .before .before .before .before .if3 .left) in
-    let constants = c .before .before .before .clear-again2 .ensures ∙ c .before .before .before .before .before .before .before .before .before .before .before .before .clear3 .ensures ∙ ap (λ (n : ℕ). cleared n (a .constants .now)) (r .constants-are) in
-    let scratch = c .before .before .before .before .before .before .before .before .before .before .before .before .before .before .before .before .clear2 .ensures ∙ ap (λ (n : ℕ). cleared n (a .scratch .now)) (r .scratch-is) in
-    let tables = c .before .before .before .before .before .before .before .clear-again .ensures ∙ c .before .before .before .before .before .before .before .before .before .before .before .before .before .before .before .before .before .before .before .before .clear .ensures ∙ ap (λ (n : ℕ). cleared n (a .tables .now)) (r .tables-are) in
+    let f = c .before .before .before .before .before .before .before .before .before .before .before .before .before .before .before .before .before .fill-labels in
+    let r = c .before .before .before .before .before .before .before .before .before .before .before .before .before .rooms-of .ensures in
+    let k = open-taken q b (number-is (c .before .before .before .before .before .before .before .before .before .before .before .before .before .before .before .before .before) ∙ c .before .before .before .before .before .before .before .before .before .before .before .before .before .before .if3 .left) in
+    let labelled = f .ensures .1 ∙ written-is (q .trace) (q .copy) (a .copies .now) (sym (f .ensures .0) ∙ c .before .before .before .before .before .before .before .before .before .before .before .before .before .before .if3 .left) in
+    let constants = c .before .before .before .clear3 .ensures ∙ ap (λ (n : ℕ). cleared n (a .constants .now)) (r .constants-are) in
+    let scratch = c .before .before .before .before .before .before .before .clear2 .ensures ∙ ap (λ (n : ℕ). cleared n (a .scratch .now)) (r .scratch-is) in
+    let tables = c .before .before .before .before .before .before .before .before .before .before .before .clear .ensures ∙ ap (λ (n : ℕ). cleared n (a .tables .now)) (r .tables-are) in
     (as-taken (c .start2 .ensures) ∙ k .0, four constants labelled scratch tables ∙ k .1)
 
 pub open-spec : {M : Type 1} → statement M
@@ -246,9 +214,6 @@ open-spec =
     clear-requires
     clear-requires-2
     clear-requires-3
-    add-large
-    clear-again-requires
-    clear-again-requires-2
     start-requires-2
     same-length-9
     same-length-10

@@ -98,8 +98,8 @@ add-at c =
     let m = small (q .specialised) (q .trace) 16 (w .special) (w .ranges .long) in
     let k = small (q .constants) (q .trace) 47 (w .height) (w .ranges .long) in omega (arith, k, m, ends (c .before .before))
 
-write-many-requires : tie.Need-write-many-requires
-write-many-requires c κs = omega (arith, ends (c .before .before .before), c .before .before .before .before .before .before .if2 .left, c .before .before .before .before .before .before .before .before .rooms-of .ensures .constants-are)
+write-words-requires : tie.Need-write-words-requires
+write-words-requires c κs = omega (arith, ends (c .before .before .before), c .before .before .before .before .before .before .if2 .left, c .before .before .before .before .before .before .before .before .rooms-of .ensures .constants-are)
 
 add-self : tie.Need-add-self
 add-self c =
@@ -118,7 +118,7 @@ returns-3 c =
     let ws = c .before .before .before .before .before .before .before .before .before .before .before .before .before .before .before .before .before .before .args .piece .now in
     let b = c .before .before .before .before .before .before .before .before .before .before .before .before .before .before .before .before .before .before .args .constants .now in
     let k = words-taken s ws b (own (c .before .before .before .before .before .before .before .before) ∙ c .before .before .before .before .before .before .before .if3 .left) in
-    (k .0, c .before .before .before .write-many .ensures ∙ k .1)
+    (k .0, c .before .before .before .write-words .ensures ∙ k .1)
 
 refused-requires-3 : tie.Need-refused-requires-3
 refused-requires-3 c κs = search needs
@@ -145,7 +145,7 @@ s-words-spec =
     returns-2
     mul-at
     add-at
-    write-many-requires
+    write-words-requires
     add-self
     same-length
     returns-3

@@ -1,4 +1,4 @@
--- `columns::cells::choose_cell` meets its contract: the two ways of a variable as one equation.
+-- `columns::cells::place_cell` meets its contract: the two ways of a variable as one equation.
 -- Assumes nothing.
 use mathlib.Core.Path.{sym, _∙_}
 use native.Mathlib.Omega.{arith}
@@ -9,8 +9,8 @@ use Rattle.pieces.specs.Setting.{cols}
 use Rattle.pieces.specs.Cells.{placeholder, indexOf}
 use Rattle.pieces.specs.CellLaws.{place-skip, place-chosen}
 use borrow.Author.Needs.{needs}
-use Rattle.columns.proofs.cells.choose_cell.Statement.{statement}
-use Rattle.columns.proofs.cells.choose_cell.Tie as tie
+use Rattle.columns.proofs.cells.place_cell.Statement.{statement}
+use Rattle.columns.proofs.cells.place_cell.Tie as tie
 
 is-placeholder-requires : tie.Need-is-placeholder-requires
 is-placeholder-requires c κs = search needs
@@ -96,8 +96,8 @@ returns-2 c =
     rw (c .before .by-value .ensures, c .by-value2 .ensures, e)
     (sym (place-chosen (a .cell) (a .variable .0) (cols (a .copies .now) (a .scratch .now)) (plain (c .before .before .before .before .before .before))))
 
-pub choose-cell-spec : {M : Type 1} → statement M
-choose-cell-spec =
+pub place-cell-spec : {M : Type 1} → statement M
+place-cell-spec =
     tie.close
     (tie.spec
     is-placeholder-requires
