@@ -1,6 +1,6 @@
 -- Things that are numbered from 0 on, walked as four quarters side by side.
 --
--- Main definitions: `Fourfold`, `Quarters`. Main statements: `fourfold-from`, `quarters-none`, `quarters-turn`, `quarters-all`.
+-- Main definitions: `Fourfold`, `Quarters`. Main statements: `quarters-none`, `quarters-turn`, `quarters-all`.
 use mathlib.Core.Path.{_≡_, sym, subst}
 use Prim.Native.Nat.{ℕ, _+_, _-_, _*_, _/_, _<_, _≤_}
 use native.Mathlib.Decide.{ℕ-discrete, decLt}
@@ -9,10 +9,6 @@ use native.Mathlib.Omega.{arith}
 -- a thing, and those one, two and three steps behind it
 abbrev pub Fourfold : (ℕ → Type 0) → ℕ → ℕ → Type 0
 Fourfold P step i = P i × P (i + step) × P (i + 2 * step) × P (i + 3 * step)
-
--- numbers counted on from `from`
-pub fourfold-from : (P : ℕ → Type 0) (from step i : ℕ) → Fourfold P step (from + i) → Fourfold (λ (j : ℕ). P (from + j)) step i
-fourfold-from P from step i (a, b, c, d) = (a, subst P (omega arith) b, subst P (omega arith) c, subst P (omega arith) d)
 
 -- so for the first `many` of each quarter
 pub record Quarters (P : ℕ → Type 0) (step many : ℕ) : Type 0 where

@@ -22,8 +22,8 @@ fn stage_line(at: usize, height: u64, bits: u64, steps: u64, words: &[u64], stag
 {
     write_path(at, bits, steps, stage);
     write_words(at + steps as usize, words, stage);
-    let told = steps + words.len() as u64;
-    write_same(0, at + told as usize, height - told, stage);
+    let filled = steps + words.len() as u64;
+    write_same(0, at + filled as usize, height - filled, stage);
 }
 
 // How many words of a piece are staged, and as how many rows.

@@ -30,8 +30,8 @@ add-write-words c = search needs
 write-words-requires : tie.Need-write-words-requires
 write-words-requires c κs = let s = c .before .before .before .before in omega (arith, s .pre .0, s .pre .1, s .pre .2, c .before .write-path .kept .1 .1 .1 .0)
 
-add-told : tie.Need-add-told
-add-told c = search needs
+add-filled : tie.Need-add-filled
+add-filled c = search needs
 
 add-write-same : tie.Need-add-write-same
 add-write-same c = search needs
@@ -62,7 +62,7 @@ stage-line-spec =
     write-path-requires
     add-write-words
     write-words-requires
-    add-told
+    add-filled
     add-write-same
     sub-write-same
     write-same-requires
