@@ -145,7 +145,7 @@ unfolding allBelow
 below-all n [] h = refl
 below-all n (w ∷ ws) h = rw (lt-ltb w n (h 0 (omega arith))) (below-all n ws (λ j l. h (suc j) (omega arith)))
 
-pub below-each : (n : ℕ) (ws : List ℕ) → allBelow n ws ≡ true → (j : ℕ) → j < length ws → Below n ws j
+below-each : (n : ℕ) (ws : List ℕ) → allBelow n ws ≡ true → (j : ℕ) → j < length ws → Below n ws j
 unfolding allBelow
 below-each n [] e j l = absurd (not-suc-le-zero l)
 below-each n (w ∷ ws) e zero l = ltb-true w n (both-true (ltb w n) (allBelow n ws) e .0)

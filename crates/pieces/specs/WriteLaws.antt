@@ -133,7 +133,7 @@ put-append d b i (x ∷ xs) ys =
     let z : i + d + length xs * d ≡ i + suc (length xs) * d = omega arith in
     rw z at (put-append d (set b i x) (i + d) xs ys)
 
-pub padded-split : (n : ℕ) (ws : List ℕ) → length ws ≤ n → padded n ws ≡ ws ++ replicate (n - length ws) 0
+padded-split : (n : ℕ) (ws : List ℕ) → length ws ≤ n → padded n ws ≡ ws ++ replicate (n - length ws) 0
 unfolding padded
 padded-split zero [] h = refl
 padded-split zero (w ∷ ws) h = absurd (not-suc-le-zero h)
