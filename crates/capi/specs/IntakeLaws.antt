@@ -29,6 +29,9 @@ use Rattle.tree.specs.Plan.{planFault, zeroPlan}
 use Rattle.tree.specs.declared.plan.Plan.{Plan}
 use Rattle.encoding.specs.Encoding.{handed, intakeOf, intakeWords, planOf, planWords, progressOf, progressed, stateLength}
 use Rattle.encoding.specs.EncodingLaws.{handed-short, plan-there, state-length, state-progressed}
+use Rattle.selector.specs.Gates.{gateSlots}
+use Rattle.base.specs.Limits.{mostGates}
+use Rattle.selector.specs.Nodes.{nodeSlots}
 use Rattle.capi.specs.Lengths.{Long, long-like, marked-long, own-plan, used-long}
 use Rattle.capi.specs.Intake.{openCall, openedState, openedStore, progressAfter, stateAfter}
 
@@ -89,22 +92,22 @@ answered-plan n s x = by (eqb n 0)
     by true = refl
     by false = refl
 
-answered-used : (n : ℕ) (s : Intake) (x : State) → length (x .used) ≡ 128 → length (s .used) ≡ 128 → length (answered n s x .state .used) ≡ 128
+answered-used : (n : ℕ) (s : Intake) (x : State) → length (x .used) ≡ mostGates → length (s .used) ≡ mostGates → length (answered n s x .state .used) ≡ mostGates
 answered-used n s x a b = by (eqb n 0)
   where
-    by : (t : Bool) → length (pick t (record { number = 0; state = withState (s .plan) x }) (refusedWith n s) .state .used) ≡ 128
+    by : (t : Bool) → length (pick t (record { number = 0; state = withState (s .plan) x }) (refusedWith n s) .state .used) ≡ mostGates
     by true = a
     by false = b
 
 -- an accepted call was given a state that stands, and keeps its plan
-answered-there : (ws : List ℕ) (s : Intake) (n : ℕ) (x : State) (t : Taken) → s ≡ intakeOf ws → t ≡ answered n s x → length (x .used) ≡ 128 → (stands (settingOf (s .plan)) (stateOf s) ≡ false → n ≡ 19)
+answered-there : (ws : List ℕ) (s : Intake) (n : ℕ) (x : State) (t : Taken) → s ≡ intakeOf ws → t ≡ answered n s x → length (x .used) ≡ mostGates → (stands (settingOf (s .plan)) (stateOf s) ≡ false → n ≡ 19)
     → PlanThere t ws
 answered-there ws s n x t es et u f z = by (stands (settingOf (s .plan)) (stateOf s)) refl
   where
     plan-same : t .state .plan ≡ intakeOf ws .plan
     plan-same = ap (λ (y : Taken). y .state .plan) et ∙ answered-plan n s x ∙ ap (λ (y : Intake). y .plan) es
 
-    used-before : length (s .used) ≡ 128
+    used-before : length (s .used) ≡ mostGates
     used-before = ap (λ (y : Intake). length (y .used)) es ∙ used-long ws
 
     by : (b : Bool) → stands (settingOf (s .plan)) (stateOf s) ≡ b → Long (t .state) × (handed (planWords (t .state .plan)) ws ≡ ws)
@@ -118,7 +121,7 @@ answered-there ws s n x t es et u f z = by (stands (settingOf (s .plan)) (stateO
     )
 
 module _ (ws : List ℕ) (s : Intake) (t : Taken) (e : s ≡ intakeOf ws) where
-  still-long : length (s .used) ≡ 128
+  still-long : length (s .used) ≡ mostGates
   still-long = ap (λ (y : Intake). length (y .used)) e ∙ used-long ws
 
   pub rows-there : (piece b : List ℕ) → t ≡ rowsAnswer s piece b → PlanThere t ws
@@ -143,7 +146,7 @@ module _ (ws : List ℕ) (s : Intake) (t : Taken) (e : s ≡ intakeOf ws) where
 
 -- ---- opening
 -- the state that opening hands back has a state's words
-opened-long : (q : Plan) (b : Store) → length (q .gates) ≡ 384 → length (q .nodes) ≡ 765 → length (intakeWords (openAnswer q b .state)) ≡ stateLength
+opened-long : (q : Plan) (b : Store) → length (q .gates) ≡ gateSlots → length (q .nodes) ≡ nodeSlots → length (intakeWords (openAnswer q b .state)) ≡ stateLength
 unfolding openAnswer
 opened-long q b g n = by (eqb (openNumber (settingOf q) b) 0)
   where
@@ -157,7 +160,7 @@ open-fault q b d =
     let k = open-refused q b 19 (open-19 q b d) (λ z. omega arith) in
     (ap (λ (x : Taken). x .number) (k .0), k .1)
 
-module _ (ws state : List ℕ) (b : Store) (q : Plan) (e : q ≡ planOf ws) (g : length (q .gates) ≡ 384) (n : length (q .nodes) ≡ 765) where
+module _ (ws state : List ℕ) (b : Store) (q : Plan) (e : q ≡ planOf ws) (g : length (q .gates) ≡ gateSlots) (n : length (q .nodes) ≡ nodeSlots) where
   short-state : length state < stateLength → (state ≡ openedState ws state b) × (b ≡ openedStore ws state b)
   unfolding openedState openedStore
   short-state h =

@@ -2,7 +2,7 @@
 --
 -- Main definitions: `LongPlan`, `Long`. Main statements: `plan-long`, `own-long`, `marked-long`.
 use Prim.Native.Nat.{ℕ}
-use lib.ListN.{drop, getD, length, length-drop, length-set, set, take}
+use lib.ListN.{drop, length, length-drop, length-set, set, take}
 use lib.Seq.{length-take-le}
 use mathlib.Core.Bool.{Bool, false, true}
 use mathlib.Core.List.{List, [], _∷_}
@@ -10,16 +10,19 @@ use mathlib.Core.Path.{_∙_, _≡_, ap, refl, sym}
 use native.Mathlib.Decide.{ℕ-discrete}
 use native.Mathlib.Omega.{arith}
 use Rattle.columns.specs.declared.intake.Intake.{Intake}
-use Rattle.encoding.specs.Encoding.{intakeOf, lookupFits, planLength, planOf, stateLength}
+use Rattle.encoding.specs.Encoding.{gatesFrom, intakeOf, lookupThere, nodesFrom, planLength, planOf, stateLength, usedFrom}
 use Rattle.encoding.specs.EncodingLaws.{plan-none, plan-other, plan-read, state-other, state-read}
 use Rattle.pieces.specs.Records.{Read, cut, whole}
 use Rattle.pieces.specs.Rows.{marked}
 use Rattle.tree.specs.Plan.{zeroPlan}
 use Rattle.tree.specs.declared.plan.Plan.{Plan}
+use Rattle.selector.specs.Gates.{gateSlots}
+use Rattle.base.specs.Limits.{mostGates}
+use Rattle.selector.specs.Nodes.{nodeSlots}
 
 pub record LongPlan (q : Plan) : Type 0 where
-  pub gates : length (q .gates) ≡ 384
-  pub nodes : length (q .nodes) ≡ 765
+  pub gates : length (q .gates) ≡ gateSlots
+  pub nodes : length (q .nodes) ≡ nodeSlots
 
 pub zero-long : LongPlan zeroPlan
 zero-long = record { gates = refl; nodes = refl }
@@ -28,23 +31,23 @@ pub long-like : (q r : Plan) → q ≡ r → LongPlan q → LongPlan r
 long-like q r e l = rw e at l
 
 pub plan-long : (ws : List ℕ) → LongPlan (planOf ws)
-plan-long ws = by (ℕ-discrete (length ws) planLength) (lookupFits (getD ws 5 0) (getD ws 6 0) (getD ws 7 0)) refl
+plan-long ws = by (ℕ-discrete (length ws) planLength) (lookupThere ws) refl
   where
-    by : Dec (length ws ≡ planLength) → (t : Bool) → lookupFits (getD ws 5 0) (getD ws 6 0) (getD ws 7 0) ≡ t → LongPlan (planOf ws)
+    by : Dec (length ws ≡ planLength) → (t : Bool) → lookupThere ws ≡ t → LongPlan (planOf ws)
     by (no d) t f = long-like zeroPlan (planOf ws) (plan-other ws d) zero-long
     by (yes e) false f = long-like zeroPlan (planOf ws) (plan-none ws e f) zero-long
     by (yes e) true f =
         long-like _ (planOf ws) (plan-read ws e f)
         (record {
-          gates = length-take-le 384 (drop 8 ws) (omega (arith, length-drop 8 ws));
-          nodes = length-take-le 765 (drop 393 ws) (omega (arith, length-drop 393 ws));
+          gates = length-take-le gateSlots (drop gatesFrom ws) (omega (arith, length-drop gatesFrom ws));
+          nodes = length-take-le nodeSlots (drop nodesFrom ws) (omega (arith, length-drop nodesFrom ws));
         })
 
-pub used-long : (ws : List ℕ) → length (intakeOf ws .used) ≡ 128
+pub used-long : (ws : List ℕ) → length (intakeOf ws .used) ≡ mostGates
 used-long ws = by (ℕ-discrete (length ws) stateLength)
   where
-    by : Dec (length ws ≡ stateLength) → length (intakeOf ws .used) ≡ 128
-    by (yes e) = ap (λ (s : Intake). length (s .used)) (sym (state-read ws e)) ∙ length-take-le 128 (drop 1167 ws) (omega (arith, length-drop 1167 ws))
+    by : Dec (length ws ≡ stateLength) → length (intakeOf ws .used) ≡ mostGates
+    by (yes e) = ap (λ (s : Intake). length (s .used)) (sym (state-read ws e)) ∙ length-take-le mostGates (drop usedFrom ws) (omega (arith, length-drop usedFrom ws))
     by (no d) = ap (λ (s : Intake). length (s .used)) (sym (state-other ws d))
 
 pub own-plan : (ws : List ℕ) → LongPlan (intakeOf ws .plan)
@@ -56,7 +59,7 @@ own-plan ws = by (ℕ-discrete (length ws) stateLength)
 
 pub record Long (s : Intake) : Type 0 where
   pub plan : LongPlan (s .plan)
-  pub used : length (s .used) ≡ 128
+  pub used : length (s .used) ≡ mostGates
 
 pub own-long : (ws : List ℕ) → Long (intakeOf ws)
 own-long ws = record { plan = own-plan ws; used = used-long ws }

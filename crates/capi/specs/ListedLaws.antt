@@ -10,6 +10,8 @@ use mathlib.Core.Path.{_∙_, _≡_, ap, sym}
 use Rattle.base.specs.Pick.{pick, pick-no, pick-yes}
 use Rattle.encoding.specs.Encoding.{handed, planLength, planWords}
 use Rattle.listing.specs.Listing.{read}
+use Rattle.selector.specs.Gates.{gateSlots}
+use Rattle.selector.specs.Nodes.{nodeSlots}
 use Rattle.pieces.specs.Setting.{Store}
 use Rattle.stage.specs.Listed.{listedAnswer, listedLeft}
 use Rattle.stage.specs.declared.circuit.Staged.{Staged}
@@ -30,8 +32,8 @@ module _ (ws out : List ℕ) (b : Store) where
 
   pub run-given : planLength ≤ length out
       → (r : Staged) (o : List ℕ) (a : Store)
-      → length (r .plan .gates) ≡ 384
-      → length (r .plan .nodes) ≡ 765
+      → length (r .plan .gates) ≡ gateSlots
+      → length (r .plan .nodes) ≡ nodeSlots
       → r ≡ listedAnswer ws b
       → o ≡ handed (planWords (r .plan)) out
       → a ≡ listedLeft ws b

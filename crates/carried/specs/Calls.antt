@@ -21,16 +21,16 @@ use Rattle.capi.specs.Calls.{listAfter}
 use Rattle.capi.specs.CallsLaws.{list-given, list-kept}
 use Rattle.capi.specs.Intake.{stateAfter}
 use Rattle.capi.specs.IntakeLaws.{PlanThere, cells-there, finish-there, progress-given, progress-kept, progress-state, rows-there, state-kept, tables-there, words-there}
-use Rattle.capi.specs.Planning.{parameterCount}
 use Rattle.claim.specs.Chain.{Kept, answer, chained}
 use Rattle.claim.specs.Statement.{Right, settingFor}
 use Rattle.columns.specs.declared.intake.Intake.{Intake}
 use Rattle.columns.specs.declared.intake.Taken.{Taken}
-use Rattle.parameters.specs.Parameters.{parametersAt}
-use Rattle.encoding.specs.Encoding.{intakeOf, planLength, progressOf, progressed, stateLength}
+use Rattle.parameters.specs.Parameters.{parameterWords, parametersAt}
+use Rattle.encoding.specs.Encoding.{countsFrom, intakeOf, phaseAt, planLength, progressLength, progressOf, progressed, stateLength, usedFrom}
 use Rattle.encoding.specs.EncodingLaws.{state-read}
 use Rattle.pieces.specs.Calls.{Call, cellWords, finishing, rows, sWords, tableWords}
 use Rattle.pieces.specs.Setting.{Store}
+use Rattle.base.specs.Limits.{mostGates}
 use Rattle.carried.specs.Carried.{other-state}
 use Rattle.carried.specs.Exported.{AcceptsFinish, Lent, answerTo, calledBy, callNumbers, circuitOf, exported, exportedAll, exportedNumber, exportedNumbers, openedBy}
 use Rattle.carried.specs.Lists.{answer-same, call-carried, decoded, exported-right, list-carried}
@@ -56,15 +56,14 @@ marks ws i n rest e = ap (λ (l : List ℕ). take n (drop i ws) ++ l) (e ∙ sym
 
 own-progress : (ws : List ℕ) → length ws ≡ stateLength → progressOf (intakeOf ws) ≡ drop planLength ws
 own-progress ws e =
-    let ends : [] ≡ drop 1296 ws = sym (ap (λ (j : ℕ). drop j ws) (sym e) ∙ drop-length ws) in
-    let h : length ws ≡ 1296 = e in
+    let ends : [] ≡ drop stateLength ws = sym (ap (λ (j : ℕ). drop j ws) (sym e) ∙ drop-length ws) in
     ap progressOf (sym (state-read ws e))
-    ∙ word ws 1162 _ (omega arith)
-    (word ws 1163 _ (omega arith)
-    (word ws 1164 _ (omega arith)
-    (word ws 1165 _ (omega arith) (word ws 1166 _ (omega arith) (marks ws 1167 128 _ (word ws 1295 [] (omega arith) ends))))))
+    ∙ word ws countsFrom _ (omega arith)
+    (word ws (countsFrom + 1) _ (omega arith)
+    (word ws (countsFrom + 2) _ (omega arith)
+    (word ws (countsFrom + 3) _ (omega arith) (word ws (countsFrom + 4) _ (omega arith) (marks ws usedFrom mostGates _ (word ws phaseAt [] (omega arith) ends))))))
 
-progress-long : (s : Intake) → length (s .used) ≡ 128 → length (progressOf s) ≡ 134
+progress-long : (s : Intake) → length (s .used) ≡ mostGates → length (progressOf s) ≡ progressLength
 progress-long s u =
     let a = length-append (s .used) (s .phase ∷ []) in
     omega (arith, a, u)
@@ -98,7 +97,7 @@ same-after c k e = by (ℕ-discrete (answerTo c k .number) 0)
     by : Dec (answerTo c k .number ≡ 0) → Same (k .words) (exported c k .words)
     by (no d) = like (stateAfter t ws) ws (sym (state-kept t ws d)) (record { many = e; plan = refl })
     by (yes z) =
-        let l : length (take planLength ws) ≡ 1162 = length-take-le planLength ws (omega arith) in
+        let l : length (take planLength ws) ≡ planLength = length-take-le planLength ws (omega arith) in
         like (stateAfter t ws) (take planLength ws ++ progressOf (t .state)) (sym (progress-state t ws (there c k)) ∙ sym (progress-given t ws z) ∙ over (progressOf (t .state)) ws e)
         (record {
           many = omega (arith, l, length-append (take planLength ws) (progressOf (t .state)), progress-long (t .state) (there c k z .0 .used));
@@ -181,7 +180,7 @@ module _ (list ns : List ℕ) (cs : List Call) (whole : callsOf list ≡ some cs
         ∙ ap (λ (j : ℕ). exportedNumbers cs k ++ drop j ns) (zero-add (length (exportedNumbers cs k)) ∙ m)
 
   -- from planning and opening on: where a finishing of the list returned 0 the columns are right for the circuit of the pieces that returned 0
-  pub calls-right : (ps gs out state : List ℕ) (b : Store) → length ps ≡ parameterCount → length out ≡ planLength → length state ≡ stateLength
+  pub calls-right : (ps gs out state : List ℕ) (b : Store) → length ps ≡ parameterWords → length out ≡ planLength → length state ≡ stateLength
       → AcceptsFinish cs (openedBy ps gs out state b)
       → Right (settingFor (parametersAt ps) gs) (circuitOf cs (openedBy ps gs out state b)) (calledBy list ns (openedBy ps gs out state b) .store)
   calls-right ps gs out state b eight plan-room state-room f =

@@ -17,8 +17,8 @@ use Rattle.field.specs.Field.{p}
 use Rattle.labels.specs.Labels.{searchNumber, found, searchFrom}
 use Rattle.labels.specs.Ranges.{rangesFit}
 use Rattle.selector.specs.Gates.{constantsOf, degreeAt, placedFrom, comesBefore, inserted, sorted, greatest}
-use Rattle.selector.specs.MadeUp.{mostLevels, wanted}
-use Rattle.selector.specs.Nodes.{nodeWords}
+use Rattle.selector.specs.MadeUp.{wanted}
+use Rattle.selector.specs.Nodes.{mostLevels, nodeSlots, nodeWords}
 use Rattle.selector.specs.NodeLaws.{own-tree}
 use Rattle.selector.specs.Refusals.{wordsFit, recordNumber, recordsNumber, someKind, lookupNumber, kindsNumber, constantsNumber, gatesNumber}
 use Rattle.selector.specs.Search.{mayStand, firstBound, firstTarget, treeWithin, searchTree, planTree, degreeOver, constantsOver}
@@ -85,7 +85,7 @@ knownₗ = refl
 
 pathₗ : planPath planₗ ≡ (λ g. pathOf g tree)
 unfolding planₗ tree
-pathₗ = path-of planₗ tree (own-tree tree (replicate 765 0) (omega arith) mostLevels (omega arith))
+pathₗ = path-of planₗ tree (own-tree tree (replicate nodeSlots 0) (omega arith) mostLevels (omega arith))
 
 foundₗ : searchNumber (planₗ .trace) (planₗ .copy) ≡ 0
 unfolding planₗ searchNumber found searchFrom
@@ -307,7 +307,7 @@ known₂ = refl
 
 path₂ : planPath plan₂ ≡ (λ g. pathOf g (leaf 0))
 unfolding plan₂
-path₂ = path-of plan₂ (leaf 0) (own-tree (leaf 0) (replicate 765 0) (omega arith) mostLevels (omega arith))
+path₂ = path-of plan₂ (leaf 0) (own-tree (leaf 0) (replicate nodeSlots 0) (omega arith) mostLevels (omega arith))
 
 found₂ : searchNumber (plan₂ .trace) (plan₂ .copy) ≡ 0
 unfolding plan₂ searchNumber found searchFrom

@@ -14,19 +14,22 @@ use native.Mathlib.Decide.{decLe, ℕ-discrete}
 use native.Mathlib.Nat.{zero-add}
 use native.Mathlib.Numerals.{add-one}
 use native.Mathlib.Omega.{arith}
+use Rattle.base.specs.Limits.{mostGates}
 use Rattle.base.specs.Pick.{both, both-true, pick, pick-no, pick-yes}
 use Rattle.columns.specs.declared.intake.Intake.{Intake}
 use Rattle.parameters.specs.Lookup.{flagOf, modeOf, shareOf, widthOf}
-use Rattle.parameters.specs.Parameters.{parametersAt, lookupOf}
+use Rattle.parameters.specs.Parameters.{lookupOf, parameterWords, parametersAt}
 use Rattle.parameters.specs.ParametersLaws.{LookupWords}
 use Rattle.parameters.specs.declared.lookup.LookupParameters.the-variants.{NoLookup, TableIdAsConstant, TableIdAsVariable, UseSpecializedColumnsWithTableIdAsConstant, UseSpecializedColumnsWithTableIdAsVariable}
 use Rattle.parameters.specs.declared.lookup.LookupParameters.{LookupParameters}
 use Rattle.parameters.specs.declared.parameters.Parameters.{Parameters}
+use Rattle.selector.specs.Gates.{gateSlots}
+use Rattle.selector.specs.Nodes.{nodeSlots}
 use Rattle.tree.specs.Plan.{parametersOf, planFault, zeroPlan}
 use Rattle.tree.specs.PlanLaws.{zero-fault}
 use Rattle.tree.specs.declared.plan.Plan.{Plan}
 use Rattle.columns.specs.Intake.{zeroIntake}
-use Rattle.encoding.specs.Encoding.{handed, headWords, intakeAt, intakeOf, intakeWords, lookupFits, planAt, planLength, planOf, planWords, progressOf, progressWords, progressed, stateLength, tailWords}
+use Rattle.encoding.specs.Encoding.{countAt, countsFrom, countsLength, gatesFrom, handed, headWords, intakeAt, intakeOf, intakeWords, lookupFits, lookupThere, nodesFrom, phaseAt, planAt, planLength, planOf, planWords, progressLength, progressOf, progressWords, progressed, stateLength, tailFrom, tailLength, tailWords, usedFrom}
 
 -- ---- the lookup mode
 fits-each : (l : LookupParameters) → lookupFits (modeOf l) (widthOf l) (flagOf (shareOf l)) ≡ true
@@ -57,7 +60,7 @@ lookup-back q = by (q .lookup)
     by (UseSpecializedColumnsWithTableIdAsConstant w false) = refl
 
 -- ---- plans. Every plan of the code has arrays of these lengths.
-pub plan-length : (q : Plan) → length (q .gates) ≡ 384 → length (q .nodes) ≡ 765 → length (planWords q) ≡ planLength
+pub plan-length : (q : Plan) → length (q .gates) ≡ gateSlots → length (q .nodes) ≡ nodeSlots → length (planWords q) ≡ planLength
 plan-length q g n =
     let a = length-append (q .gates) (q .«gate_count» ∷ (q .nodes ++ tailWords q)) in
     let b = length-append (q .nodes) (tailWords q) in
@@ -70,25 +73,25 @@ part-getD xs ys n i e = ap (λ (k : ℕ). getD (xs ++ ys) (k + i) 0) (sym e) ∙
 part-drop : (xs ys : List ℕ) (n i : ℕ) → length xs ≡ n → drop (n + i) (xs ++ ys) ≡ drop i ys
 part-drop xs ys n i e = ap (λ (k : ℕ). drop (k + i) (xs ++ ys)) (sym e) ∙ drop-append-add xs ys i
 
-module _ (q : Plan) (g : length (q .gates) ≡ 384) (n : length (q .nodes) ≡ 765) where
+module _ (q : Plan) (g : length (q .gates) ≡ gateSlots) (n : length (q .nodes) ≡ nodeSlots) where
   -- the words after the gates
   abbrev counted : List ℕ
   counted = q .«gate_count» ∷ (q .nodes ++ tailWords q)
 
-  nodes-back : take 765 (drop 393 (planWords q)) ≡ q .nodes
-  nodes-back = ap (take 765) (part-drop (q .gates) counted 384 1 g) ∙ take-at (q .nodes) (tailWords q) 765 n
+  nodes-back : take nodeSlots (drop nodesFrom (planWords q)) ≡ q .nodes
+  nodes-back = ap (take nodeSlots) (part-drop (q .gates) counted gateSlots 1 g) ∙ take-at (q .nodes) (tailWords q) nodeSlots n
 
-  count-back : getD (planWords q) 1158 0 ≡ q .«node_count»
-  count-back = part-getD (q .gates) counted 384 766 g ∙ part-getD (q .nodes) (tailWords q) 765 0 n
+  count-back : getD (planWords q) tailFrom 0 ≡ q .«node_count»
+  count-back = part-getD (q .gates) counted gateSlots (1 + nodeSlots) g ∙ part-getD (q .nodes) (tailWords q) nodeSlots 0 n
 
-  degree-back : getD (planWords q) 1159 0 ≡ q .degree
-  degree-back = part-getD (q .gates) counted 384 767 g ∙ part-getD (q .nodes) (tailWords q) 765 1 n
+  degree-back : getD (planWords q) (tailFrom + 1) 0 ≡ q .degree
+  degree-back = part-getD (q .gates) counted gateSlots (1 + nodeSlots + 1) g ∙ part-getD (q .nodes) (tailWords q) nodeSlots 1 n
 
-  constants-back : getD (planWords q) 1160 0 ≡ q .constants
-  constants-back = part-getD (q .gates) counted 384 768 g ∙ part-getD (q .nodes) (tailWords q) 765 2 n
+  constants-back : getD (planWords q) (tailFrom + 2) 0 ≡ q .constants
+  constants-back = part-getD (q .gates) counted gateSlots (1 + nodeSlots + 2) g ∙ part-getD (q .nodes) (tailWords q) nodeSlots 2 n
 
-  factor-back : getD (planWords q) 1161 0 ≡ q .factor
-  factor-back = part-getD (q .gates) counted 384 769 g ∙ part-getD (q .nodes) (tailWords q) 765 3 n
+  factor-back : getD (planWords q) (tailFrom + 3) 0 ≡ q .factor
+  factor-back = part-getD (q .gates) counted gateSlots (1 + nodeSlots + 3) g ∙ part-getD (q .nodes) (tailWords q) nodeSlots 3 n
 
   fields-back : planAt (planWords q) ≡ q
   fields-back = λ i. record {
@@ -98,8 +101,8 @@ module _ (q : Plan) (g : length (q .gates) ≡ 384) (n : length (q .nodes) ≡ 7
     specialised = q .specialised;
     variables = q .variables;
     lookup = lookup-back q i;
-    gates = take-at (q .gates) counted 384 g i;
-    «gate_count» = getD-at (q .gates) (q .«gate_count») (q .nodes ++ tailWords q) 0 384 g i;
+    gates = take-at (q .gates) counted gateSlots g i;
+    «gate_count» = getD-at (q .gates) (q .«gate_count») (q .nodes ++ tailWords q) 0 gateSlots g i;
     nodes = nodes-back i;
     «node_count» = count-back i;
     degree = degree-back i;
@@ -115,8 +118,8 @@ module _ (q : Plan) (g : length (q .gates) ≡ 384) (n : length (q .nodes) ≡ 7
       ∙ pick-yes (lookupFits (modeOf (q .lookup)) (widthOf (q .lookup)) (flagOf (shareOf (q .lookup)))) (planAt (planWords q)) zeroPlan (fits-each (q .lookup))
       ∙ fields-back
 
-module _ (s : Intake) (g : length (s .plan .gates) ≡ 384) (n : length (s .plan .nodes) ≡ 765) (u : length (s .used) ≡ 128) where
-  long : length (planWords (s .plan)) ≡ 1162
+module _ (s : Intake) (g : length (s .plan .gates) ≡ gateSlots) (n : length (s .plan .nodes) ≡ nodeSlots) (u : length (s .used) ≡ mostGates) where
+  long : length (planWords (s .plan)) ≡ planLength
   long = plan-length (s .plan) g n
 
   pub state-length : length (intakeWords s) ≡ stateLength
@@ -127,14 +130,14 @@ module _ (s : Intake) (g : length (s .plan .gates) ≡ 384) (n : length (s .plan
 
   state-fields : intakeAt (intakeWords s) ≡ s
   state-fields = λ i. record {
-    plan = (ap planOf (take-at (planWords (s .plan)) (progressOf s) 1162 long) ∙ plan-back (s .plan) g n) i;
-    rows = part-getD (planWords (s .plan)) (progressOf s) 1162 0 long i;
-    «s_words» = part-getD (planWords (s .plan)) (progressOf s) 1162 1 long i;
-    cells = part-getD (planWords (s .plan)) (progressOf s) 1162 2 long i;
-    tables = part-getD (planWords (s .plan)) (progressOf s) 1162 3 long i;
-    «table_rows» = part-getD (planWords (s .plan)) (progressOf s) 1162 4 long i;
-    used = (ap (take 128) (part-drop (planWords (s .plan)) (progressOf s) 1162 5 long) ∙ take-at (s .used) (s .phase ∷ []) 128 u) i;
-    phase = (part-getD (planWords (s .plan)) (progressOf s) 1162 133 long ∙ getD-at (s .used) (s .phase) [] 0 128 u) i;
+    plan = (ap planOf (take-at (planWords (s .plan)) (progressOf s) planLength long) ∙ plan-back (s .plan) g n) i;
+    rows = part-getD (planWords (s .plan)) (progressOf s) planLength 0 long i;
+    «s_words» = part-getD (planWords (s .plan)) (progressOf s) planLength 1 long i;
+    cells = part-getD (planWords (s .plan)) (progressOf s) planLength 2 long i;
+    tables = part-getD (planWords (s .plan)) (progressOf s) planLength 3 long i;
+    «table_rows» = part-getD (planWords (s .plan)) (progressOf s) planLength 4 long i;
+    used = (ap (take mostGates) (part-drop (planWords (s .plan)) (progressOf s) planLength countsLength long) ∙ take-at (s .used) (s .phase ∷ []) mostGates u) i;
+    phase = (part-getD (planWords (s .plan)) (progressOf s) planLength (countsLength + mostGates) long ∙ getD-at (s .used) (s .phase) [] 0 mostGates u) i;
   }
 
   -- and a state
@@ -187,7 +190,7 @@ set-next : (done old w : List ℕ) (at x : ℕ) → length done ≡ at → at < 
 set-next done old w at x e h k = ap (λ (l : List ℕ). set l at x) k ∙ set-on done old at x e h
 
 -- the words that a plan is written by, part after part
-module _ (q : Plan) (old : List ℕ) (g : length (q .gates) ≡ 384) (n : length (q .nodes) ≡ 765) (h : planLength ≤ length old) where
+module _ (q : Plan) (old : List ℕ) (g : length (q .gates) ≡ gateSlots) (n : length (q .nodes) ≡ nodeSlots) (h : planLength ≤ length old) where
   abbrev head-gates : List ℕ
   head-gates = headWords q ++ q .gates
 
@@ -197,14 +200,14 @@ module _ (q : Plan) (old : List ℕ) (g : length (q .gates) ≡ 384) (n : length
   abbrev to-nodes : List ℕ
   to-nodes = to-count ++ q .nodes
 
-  long-gates : length head-gates ≡ 392
-  long-gates = two-long (headWords q) (q .gates) 8 384 refl g
+  long-gates : length head-gates ≡ countAt
+  long-gates = two-long (headWords q) (q .gates) gatesFrom gateSlots refl g
 
-  long-count : length to-count ≡ 393
-  long-count = two-long head-gates (q .«gate_count» ∷ []) 392 1 long-gates refl
+  long-count : length to-count ≡ nodesFrom
+  long-count = two-long head-gates (q .«gate_count» ∷ []) countAt 1 long-gates refl
 
-  long-nodes : length to-nodes ≡ 1158
-  long-nodes = two-long to-count (q .nodes) 393 765 long-count n
+  long-nodes : length to-nodes ≡ tailFrom
+  long-nodes = two-long to-count (q .nodes) nodesFrom nodeSlots long-count n
 
   in-parts : to-nodes ++ tailWords q ≡ planWords q
   in-parts =
@@ -214,22 +217,22 @@ module _ (q : Plan) (old : List ℕ) (g : length (q .gates) ≡ 384) (n : length
 
   pub plan-written : (m w f : ℕ) → m ≡ modeOf (q .lookup) → w ≡ widthOf (q .lookup) → f ≡ flagOf (shareOf (q .lookup))
       → (a b d e : List ℕ)
-      → a ≡ paste old 0 (q .trace ∷ q .copy ∷ q .allowed ∷ q .specialised ∷ q .variables ∷ m ∷ w ∷ f ∷ []) 8
-      → b ≡ paste a 8 (q .gates) (length (q .gates))
-      → d ≡ paste (set b 392 (q .«gate_count»)) 393 (q .nodes) (length (q .nodes))
-      → e ≡ paste d 1158 (tailWords q) 4
+      → a ≡ paste old 0 (q .trace ∷ q .copy ∷ q .allowed ∷ q .specialised ∷ q .variables ∷ m ∷ w ∷ f ∷ []) parameterWords
+      → b ≡ paste a gatesFrom (q .gates) (length (q .gates))
+      → d ≡ paste (set b countAt (q .«gate_count»)) nodesFrom (q .nodes) (length (q .nodes))
+      → e ≡ paste d tailFrom (tailWords q) tailLength
       → e ≡ handed (planWords q) old
   plan-written m w f em ew ef a b d e ea eb ed ee =
-      let ea2 : a ≡ paste old 0 (headWords q) 8 = rw (em, ew, ef) at ea in
-      let fa : a ≡ headWords q ++ drop 8 old = ea2 ∙ paste-next [] (headWords q) old old 0 8 refl refl refl in
-      let fb : b ≡ head-gates ++ drop 392 old = eb ∙ paste-next (headWords q) (q .gates) old a 8 384 refl g fa in
-      let fc : set b 392 (q .«gate_count») ≡ to-count ++ drop 393 old = set-next head-gates old b 392 (q .«gate_count») long-gates (omega arith) fb in
-      let fd : d ≡ to-nodes ++ drop 1158 old = ed ∙ paste-next to-count (q .nodes) old (set b 392 (q .«gate_count»)) 393 765 long-count n fc in
-      let fe : e ≡ (to-nodes ++ tailWords q) ++ drop planLength old = ee ∙ paste-next to-nodes (tailWords q) old d 1158 4 long-nodes refl fd in
+      let ea2 : a ≡ paste old 0 (headWords q) parameterWords = rw (em, ew, ef) at ea in
+      let fa : a ≡ headWords q ++ drop gatesFrom old = ea2 ∙ paste-next [] (headWords q) old old 0 parameterWords refl refl refl in
+      let fb : b ≡ head-gates ++ drop countAt old = eb ∙ paste-next (headWords q) (q .gates) old a gatesFrom gateSlots refl g fa in
+      let fc : set b countAt (q .«gate_count») ≡ to-count ++ drop nodesFrom old = set-next head-gates old b countAt (q .«gate_count») long-gates (omega arith) fb in
+      let fd : d ≡ to-nodes ++ drop tailFrom old = ed ∙ paste-next to-count (q .nodes) old (set b countAt (q .«gate_count»)) nodesFrom nodeSlots long-count n fc in
+      let fe : e ≡ (to-nodes ++ tailWords q) ++ drop planLength old = ee ∙ paste-next to-nodes (tailWords q) old d tailFrom tailLength long-nodes refl fd in
       fe ∙ ap (λ (l : List ℕ). l ++ drop planLength old) in-parts ∙ handed-long (planWords q) old planLength (plan-length q g n) h
 
 -- what a state has besides its plan, part after part
-module _ (rows words cells tables stacked phase : ℕ) (used old : List ℕ) (u : length used ≡ 128) (h : stateLength ≤ length old) where
+module _ (rows words cells tables stacked phase : ℕ) (used old : List ℕ) (u : length used ≡ mostGates) (h : stateLength ≤ length old) where
   abbrev five : List ℕ
   five = rows ∷ words ∷ cells ∷ tables ∷ stacked ∷ []
 
@@ -239,26 +242,26 @@ module _ (rows words cells tables stacked phase : ℕ) (used old : List ℕ) (u 
   abbrev to-used : List ℕ
   to-used = to-counts ++ used
 
-  long-counts : length to-counts ≡ 1167
-  long-counts = two-long (take planLength old) five 1162 5 (length-take-le planLength old (omega arith)) refl
+  long-counts : length to-counts ≡ usedFrom
+  long-counts = two-long (take planLength old) five countsFrom countsLength (length-take-le planLength old (omega arith)) refl
 
-  long-used : length to-used ≡ 1295
-  long-used = two-long to-counts used 1167 128 long-counts u
+  long-used : length to-used ≡ phaseAt
+  long-used = two-long to-counts used usedFrom mostGates long-counts u
 
-  pub progress-written : (a b : List ℕ) → a ≡ paste old 1162 five 5 → b ≡ paste a 1167 used (length used)
-      → set b 1295 phase ≡ progressed (progressWords rows words cells tables stacked used phase) old
+  pub progress-written : (a b : List ℕ) → a ≡ paste old countsFrom five countsLength → b ≡ paste a usedFrom used (length used)
+      → set b phaseAt phase ≡ progressed (progressWords rows words cells tables stacked used phase) old
   progress-written a b ea eb =
-      let fa : a ≡ to-counts ++ drop 1167 old = ea ∙ paste-next (take planLength old) five old old 1162 5 (length-take-le planLength old (omega arith)) refl (sym (take-append-drop planLength old)) in
-      let fb : b ≡ to-used ++ drop 1295 old = eb ∙ paste-next to-counts used old a 1167 128 long-counts u fa in
+      let fa : a ≡ to-counts ++ drop usedFrom old = ea ∙ paste-next (take planLength old) five old old countsFrom countsLength (length-take-le planLength old (omega arith)) refl (sym (take-append-drop planLength old)) in
+      let fb : b ≡ to-used ++ drop phaseAt old = eb ∙ paste-next to-counts used old a usedFrom mostGates long-counts u fa in
       let new = progressWords rows words cells tables stacked used phase in
       let parts = append-assoc to-counts used (phase ∷ []) ∙ append-assoc (take planLength old) five (used ++ (phase ∷ [])) in
-      set-next to-used old b 1295 phase long-used (omega arith) fb
+      set-next to-used old b phaseAt phase long-used (omega arith) fb
       ∙ ap (λ (l : List ℕ). l ++ drop stateLength old) parts
       ∙ append-assoc (take planLength old) new (drop stateLength old)
       ∙ sym (pick-yes (leb stateLength (length old)) (take planLength old ++ (new ++ drop stateLength old)) old (le-leb stateLength (length old) h))
 
 -- and a state, the plan first
-module _ (s : Intake) (old : List ℕ) (g : length (s .plan .gates) ≡ 384) (n : length (s .plan .nodes) ≡ 765) (u : length (s .used) ≡ 128) where
+module _ (s : Intake) (old : List ℕ) (g : length (s .plan .gates) ≡ gateSlots) (n : length (s .plan .nodes) ≡ nodeSlots) (u : length (s .used) ≡ mostGates) where
   pub state-written : stateLength ≤ length old → (a : List ℕ) → a ≡ handed (planWords (s .plan)) old → progressed (progressOf s) a ≡ handed (intakeWords s) old
   state-written h a e =
       let front = planWords (s .plan) in
@@ -270,7 +273,7 @@ module _ (s : Intake) (old : List ℕ) (g : length (s .plan .gates) ≡ 384) (n 
       ap (progressed new) p
       ∙ pick-yes (leb stateLength (length w)) (take planLength w ++ (new ++ drop stateLength w)) w (le-leb stateLength (length w) k)
       ∙ ap (λ (r : List ℕ). r ++ (new ++ drop stateLength w)) (take-at front (drop planLength old) planLength l)
-      ∙ ap (λ (r : List ℕ). front ++ (new ++ r)) (part-drop front (drop planLength old) 1162 134 l ∙ drop-drop 134 1162 old)
+      ∙ ap (λ (r : List ℕ). front ++ (new ++ r)) (part-drop front (drop planLength old) planLength progressLength l ∙ drop-drop progressLength planLength old)
       ∙ sym (append-assoc front new (drop stateLength old))
       ∙ handed-long (intakeWords s) old stateLength (state-length s g n u) h
 
@@ -295,15 +298,15 @@ pub plan-other : (ws : List ℕ) → length ws ≢ planLength → zeroPlan ≡ p
 unfolding planOf
 plan-other ws d = sym (pick-no (eqb (length ws) planLength) _ zeroPlan (ne-eqb (length ws) planLength d))
 
-pub plan-none : (ws : List ℕ) → length ws ≡ planLength → lookupFits (getD ws 5 0) (getD ws 6 0) (getD ws 7 0) ≡ false → zeroPlan ≡ planOf ws
+pub plan-none : (ws : List ℕ) → length ws ≡ planLength → lookupThere ws ≡ false → zeroPlan ≡ planOf ws
 unfolding planOf
 plan-none ws e f =
-    sym (pick-yes (eqb (length ws) planLength) _ zeroPlan (eq-eqb (length ws) planLength e) ∙ pick-no (lookupFits (getD ws 5 0) (getD ws 6 0) (getD ws 7 0)) (planAt ws) zeroPlan f)
+    sym (pick-yes (eqb (length ws) planLength) _ zeroPlan (eq-eqb (length ws) planLength e) ∙ pick-no (lookupThere ws) (planAt ws) zeroPlan f)
 
-pub plan-read : (ws : List ℕ) → length ws ≡ planLength → lookupFits (getD ws 5 0) (getD ws 6 0) (getD ws 7 0) ≡ true → planAt ws ≡ planOf ws
+pub plan-read : (ws : List ℕ) → length ws ≡ planLength → lookupThere ws ≡ true → planAt ws ≡ planOf ws
 unfolding planOf
 plan-read ws e f =
-    sym (pick-yes (eqb (length ws) planLength) _ zeroPlan (eq-eqb (length ws) planLength e) ∙ pick-yes (lookupFits (getD ws 5 0) (getD ws 6 0) (getD ws 7 0)) (planAt ws) zeroPlan f)
+    sym (pick-yes (eqb (length ws) planLength) _ zeroPlan (eq-eqb (length ws) planLength e) ∙ pick-yes (lookupThere ws) (planAt ws) zeroPlan f)
 
 pub state-other : (ws : List ℕ) → length ws ≢ stateLength → zeroIntake ≡ intakeOf ws
 unfolding intakeOf
@@ -320,13 +323,13 @@ part-read ws at n h =
     paste-all (take n (drop at ws)) (replicate n 0) (e ∙ sym (length-replicate n 0))
 
 -- the plan that is made of the words' parts
-pub plan-made : (ws : List ℕ) → length ws ≡ planLength → lookupFits (getD ws 5 0) (getD ws 6 0) (getD ws 7 0) ≡ true
+pub plan-made : (ws : List ℕ) → length ws ≡ planLength → lookupThere ws ≡ true
     → (p : Parameters) (l : LookupParameters) (gs ns : List ℕ)
     → p ≡ parametersAt ws
     → l ≡ lookupOf p
-    → gs ≡ paste (replicate 384 0) 0 (take 384 (drop 8 ws)) (length (take 384 (drop 8 ws)))
-    → ns ≡ paste (replicate 765 0) 0 (take 765 (drop 393 ws)) (length (take 765 (drop 393 ws)))
-    → _≡_ {A = Plan} (record { trace = p .trace; copy = p .copy; allowed = p .allowed; specialised = p .specialised; variables = p .variables; lookup = l; gates = gs; «gate_count» = getD ws 392 0; nodes = ns; «node_count» = getD ws 1158 0; degree = getD ws 1159 0; constants = getD ws 1160 0; factor = getD ws 1161 0 }) (planOf ws)
+    → gs ≡ paste (replicate gateSlots 0) 0 (take gateSlots (drop gatesFrom ws)) (length (take gateSlots (drop gatesFrom ws)))
+    → ns ≡ paste (replicate nodeSlots 0) 0 (take nodeSlots (drop nodesFrom ws)) (length (take nodeSlots (drop nodesFrom ws)))
+    → _≡_ {A = Plan} (record { trace = p .trace; copy = p .copy; allowed = p .allowed; specialised = p .specialised; variables = p .variables; lookup = l; gates = gs; «gate_count» = getD ws countAt 0; nodes = ns; «node_count» = getD ws tailFrom 0; degree = getD ws (tailFrom + 1) 0; constants = getD ws (tailFrom + 2) 0; factor = getD ws (tailFrom + 3) 0 }) (planOf ws)
 plan-made ws e f p l gs ns ep el eg en =
     (λ i. record {
       trace = ep i .trace;
@@ -335,13 +338,13 @@ plan-made ws e f p l gs ns ep el eg en =
       specialised = ep i .specialised;
       variables = ep i .variables;
       lookup = (el ∙ ap lookupOf ep) i;
-      gates = (eg ∙ part-read ws 8 384 (omega arith)) i;
-      «gate_count» = getD ws 392 0;
-      nodes = (en ∙ part-read ws 393 765 (omega arith)) i;
-      «node_count» = getD ws 1158 0;
-      degree = getD ws 1159 0;
-      constants = getD ws 1160 0;
-      factor = getD ws 1161 0;
+      gates = (eg ∙ part-read ws gatesFrom gateSlots (omega arith)) i;
+      «gate_count» = getD ws countAt 0;
+      nodes = (en ∙ part-read ws nodesFrom nodeSlots (omega arith)) i;
+      «node_count» = getD ws tailFrom 0;
+      degree = getD ws (tailFrom + 1) 0;
+      constants = getD ws (tailFrom + 2) 0;
+      factor = getD ws (tailFrom + 3) 0;
     })
     ∙ plan-read ws e f
 
@@ -349,18 +352,18 @@ plan-made ws e f p l gs ns ep el eg en =
 pub state-made : (ws : List ℕ) → length ws ≡ stateLength
     → (q : Plan) (us : List ℕ)
     → q ≡ planOf (take planLength ws)
-    → us ≡ paste (replicate 128 0) 0 (take 128 (drop 1167 ws)) (length (take 128 (drop 1167 ws)))
-    → _≡_ {A = Intake} (record { plan = q; rows = getD ws 1162 0; «s_words» = getD ws 1163 0; cells = getD ws 1164 0; tables = getD ws 1165 0; «table_rows» = getD ws 1166 0; used = us; phase = getD ws 1295 0 }) (intakeOf ws)
+    → us ≡ paste (replicate mostGates 0) 0 (take mostGates (drop usedFrom ws)) (length (take mostGates (drop usedFrom ws)))
+    → _≡_ {A = Intake} (record { plan = q; rows = getD ws countsFrom 0; «s_words» = getD ws (countsFrom + 1) 0; cells = getD ws (countsFrom + 2) 0; tables = getD ws (countsFrom + 3) 0; «table_rows» = getD ws (countsFrom + 4) 0; used = us; phase = getD ws phaseAt 0 }) (intakeOf ws)
 state-made ws e q us eq eu =
     (λ i. record {
       plan = eq i;
-      rows = getD ws 1162 0;
-      «s_words» = getD ws 1163 0;
-      cells = getD ws 1164 0;
-      tables = getD ws 1165 0;
-      «table_rows» = getD ws 1166 0;
-      used = (eu ∙ part-read ws 1167 128 (omega arith)) i;
-      phase = getD ws 1295 0;
+      rows = getD ws countsFrom 0;
+      «s_words» = getD ws (countsFrom + 1) 0;
+      cells = getD ws (countsFrom + 2) 0;
+      tables = getD ws (countsFrom + 3) 0;
+      «table_rows» = getD ws (countsFrom + 4) 0;
+      used = (eu ∙ part-read ws usedFrom mostGates (omega arith)) i;
+      phase = getD ws phaseAt 0;
     })
     ∙ state-read ws e
 
@@ -402,14 +405,14 @@ word-again ws i rest h e = ap (λ (l : List ℕ). getD ws i 0 ∷ l) e ∙ sym (
 words-again : (ws : List ℕ) (i n : ℕ) (rest : List ℕ) → rest ≡ drop (i + n) ws → take n (drop i ws) ++ rest ≡ drop i ws
 words-again ws i n rest e = ap (λ (l : List ℕ). take n (drop i ws) ++ l) (e ∙ sym (drop-drop n i ws)) ∙ take-append-drop n (drop i ws)
 
-module _ (ws : List ℕ) (e : length ws ≡ planLength) (f : lookupFits (getD ws 5 0) (getD ws 6 0) (getD ws 7 0) ≡ true) where
-  tail-again : tailWords (planAt ws) ≡ drop 1158 ws
+module _ (ws : List ℕ) (e : length ws ≡ planLength) (f : lookupThere ws ≡ true) where
+  tail-again : tailWords (planAt ws) ≡ drop tailFrom ws
   tail-again =
-      word-again ws 1158 _ (omega arith)
-      (word-again ws 1159 _ (omega arith) (word-again ws 1160 _ (omega arith) (word-again ws 1161 [] (omega arith) (sym (drop-length ws) ∙ ap (λ (k : ℕ). drop k ws) e))))
+      word-again ws tailFrom _ (omega arith)
+      (word-again ws (tailFrom + 1) _ (omega arith) (word-again ws (tailFrom + 2) _ (omega arith) (word-again ws (tailFrom + 3) [] (omega arith) (sym (drop-length ws) ∙ ap (λ (k : ℕ). drop k ws) e))))
 
-  parts-again : take 384 (drop 8 ws) ++ (getD ws 392 0 ∷ (take 765 (drop 393 ws) ++ tailWords (planAt ws))) ≡ drop 8 ws
-  parts-again = words-again ws 8 384 _ (word-again ws 392 _ (omega arith) (words-again ws 393 765 _ tail-again))
+  parts-again : take gateSlots (drop gatesFrom ws) ++ (getD ws countAt 0 ∷ (take nodeSlots (drop nodesFrom ws) ++ tailWords (planAt ws))) ≡ drop gatesFrom ws
+  parts-again = words-again ws gatesFrom gateSlots _ (word-again ws countAt _ (omega arith) (words-again ws nodesFrom nodeSlots _ tail-again))
 
   plan-again : planWords (planAt ws) ≡ ws
   plan-again =
@@ -422,9 +425,9 @@ module _ (ws : List ℕ) (e : length ws ≡ planLength) (f : lookupFits (getD ws
 
 -- encoding what was decoded gives the words, where the plan has no fault
 sound-again : (ws : List ℕ) → planFault (planOf ws) ≡ 0 → planWords (planOf ws) ≡ ws
-sound-again ws z = by (ℕ-discrete (length ws) planLength) (lookupFits (getD ws 5 0) (getD ws 6 0) (getD ws 7 0)) refl
+sound-again ws z = by (ℕ-discrete (length ws) planLength) (lookupThere ws) refl
   where
-    by : Dec (length ws ≡ planLength) → (t : Bool) → lookupFits (getD ws 5 0) (getD ws 6 0) (getD ws 7 0) ≡ t → planWords (planOf ws) ≡ ws
+    by : Dec (length ws ≡ planLength) → (t : Bool) → lookupThere ws ≡ t → planWords (planOf ws) ≡ ws
     by (no d) t f = absurd (omega (arith, zero-fault, ap planFault (plan-other ws d), z))
     by (yes e) false f = absurd (omega (arith, zero-fault, ap planFault (plan-none ws e f), z))
     by (yes e) true f = ap planWords (sym (plan-read ws e f)) ∙ plan-again ws e f

@@ -7,26 +7,39 @@ ghost use Rattle.parameters.specs.Lookup.{flagOf};
 ghost use Rattle.encoding.specs.Encoding.{handed, intakeOf, intakeWords, lookupFits, planOf, planWords, progressWords, progressed};
 use columns::intake::Intake;
 use columns::intake::NEVER;
+use parameters::parameters::PARAMETER_WORDS;
 use parameters::parameters::parameters_at;
+use selector::GATE_SLOTS;
+use selector::MOST_GATES;
+use selector::Marks;
+use selector::NODE_SLOTS;
 use tree::plan::Plan;
 
-// Where the parts of a plan's words end: parameters and lookup mode, gates, their count, nodes, the rest.
-const HEAD_END: usize = 8;
+// Where the parts of a plan's words stand: parameters and lookup mode first, then gates, their count, nodes, the rest.
+const GATES_FROM: usize = PARAMETER_WORDS;
 
-const GATES_END: usize = 392;
+const COUNT_AT: usize = GATES_FROM + GATE_SLOTS;
 
-const NODES_START: usize = 393;
+const NODES_FROM: usize = COUNT_AT + 1;
 
-const NODES_END: usize = 1158;
+const TAIL_FROM: usize = NODES_FROM + NODE_SLOTS;
 
-pub const PLAN_WORDS: usize = 1162;
+// The number of nodes, D, K and F.
+const TAIL_LENGTH: usize = 4;
 
-// Where the parts of a state's words end: the plan, the counts, the marks, the phase.
-const COUNTS_END: usize = 1167;
+pub const PLAN_WORDS: usize = TAIL_FROM + TAIL_LENGTH;
 
-const USED_END: usize = 1295;
+// Where the parts of a state's words stand: the plan first, then the counts, the marks, the phase.
+const COUNTS_FROM: usize = PLAN_WORDS;
 
-pub const STATE_WORDS: usize = 1296;
+// Rows, S words, cells, tables and table rows.
+const COUNTS_LENGTH: usize = 5;
+
+const USED_FROM: usize = COUNTS_FROM + COUNTS_LENGTH;
+
+const PHASE_AT: usize = USED_FROM + MOST_GATES;
+
+pub const STATE_WORDS: usize = PHASE_AT + 1;
 
 // The words of a slice go into another, from `at` on.
 fn copy_words(from: &[u64], at: usize, to: &mut [u64])
@@ -85,12 +98,12 @@ pub fn decode_plan(words: &[u64]) -> Plan
     if words.len() != PLAN_WORDS {
         return Plan::zero();
     }
-    if lookup_fits(words[5], words[6], words[7]) {
-        let parameters = parameters_at(words);
-        let mut gates = [0; 384];
-        copy_words(&words[HEAD_END..GATES_END], 0, &mut gates);
-        let mut nodes = [0; 765];
-        copy_words(&words[NODES_START..NODES_END], 0, &mut nodes);
+    let parameters = parameters_at(words);
+    if lookup_fits(parameters.mode, parameters.width, parameters.share) {
+        let mut gates = [0; GATE_SLOTS];
+        copy_words(&words[GATES_FROM..COUNT_AT], 0, &mut gates);
+        let mut nodes = [0; NODE_SLOTS];
+        copy_words(&words[NODES_FROM..TAIL_FROM], 0, &mut nodes);
         return Plan {
             trace: parameters.trace,
             copy: parameters.copy,
@@ -99,12 +112,12 @@ pub fn decode_plan(words: &[u64]) -> Plan
             variables: parameters.variables,
             lookup: parameters.lookup(),
             gates: gates,
-            gate_count: words[GATES_END],
+            gate_count: words[COUNT_AT],
             nodes: nodes,
-            node_count: words[NODES_END],
-            degree: words[NODES_END + 1],
-            constants: words[NODES_END + 2],
-            factor: words[NODES_END + 3],
+            node_count: words[TAIL_FROM],
+            degree: words[TAIL_FROM + 1],
+            constants: words[TAIL_FROM + 2],
+            factor: words[TAIL_FROM + 3],
         };
     }
     Plan::zero()
@@ -130,19 +143,19 @@ pub fn encode_plan(plan: Plan, words: &mut [u64])
     ];
     copy_words(&head, 0, words);
     let gates = plan.gates;
-    copy_words(&gates, HEAD_END, words);
-    words[GATES_END] = plan.gate_count;
+    copy_words(&gates, GATES_FROM, words);
+    words[COUNT_AT] = plan.gate_count;
     let nodes = plan.nodes;
-    copy_words(&nodes, NODES_START, words);
+    copy_words(&nodes, NODES_FROM, words);
     let tail = [plan.node_count, plan.degree, plan.constants, plan.factor];
-    copy_words(&tail, NODES_END, words);
+    copy_words(&tail, TAIL_FROM, words);
 }
 
 // The state that the words encode; of another number of words a state of zeros.
 pub fn decode_state(words: &[u64]) -> Intake
     ensures { λ r. ⌜ r ≡ intakeOf (now (words .entry)) ⌝ }
 {
-    let mut used = [0; 128];
+    let mut used = [0; MOST_GATES];
     if words.len() != STATE_WORDS {
         return Intake {
             plan: Plan::zero(),
@@ -155,21 +168,18 @@ pub fn decode_state(words: &[u64]) -> Intake
             phase: NEVER,
         };
     }
-    copy_words(&words[COUNTS_END..USED_END], 0, &mut used);
+    copy_words(&words[USED_FROM..PHASE_AT], 0, &mut used);
     Intake {
         plan: decode_plan(&words[..PLAN_WORDS]),
-        rows: words[PLAN_WORDS],
-        s_words: words[PLAN_WORDS + 1],
-        cells: words[PLAN_WORDS + 2],
-        tables: words[PLAN_WORDS + 3],
-        table_rows: words[PLAN_WORDS + 4],
+        rows: words[COUNTS_FROM],
+        s_words: words[COUNTS_FROM + 1],
+        cells: words[COUNTS_FROM + 2],
+        tables: words[COUNTS_FROM + 3],
+        table_rows: words[COUNTS_FROM + 4],
         used: used,
-        phase: words[USED_END],
+        phase: words[PHASE_AT],
     }
 }
-
-// A mark for each gate, as a state has them.
-pub type Marks = [u64; 128];
 
 // What a call changes of a state goes behind the words of its plan, which stay; a slice that is too
 // short keeps all its words.
@@ -187,9 +197,9 @@ pub fn encode_progress(
 {
     if STATE_WORDS <= words.len() {
         let counts = [rows, s_words, cells, tables, table_rows];
-        copy_words(&counts, PLAN_WORDS, words);
-        copy_words(&used, COUNTS_END, words);
-        words[USED_END] = phase;
+        copy_words(&counts, COUNTS_FROM, words);
+        copy_words(&used, USED_FROM, words);
+        words[PHASE_AT] = phase;
     }
 }
 

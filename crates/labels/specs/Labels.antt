@@ -67,7 +67,7 @@ columnWords xs = xs ++ replicate (mostColumns - length xs) 0
 unfoldable pub representativesNumber : ℕ → ℕ → ℕ
 representativesNumber n c = pick (rangesFit n c) (searchNumber n c) outOfRange
 
--- "The answer is then zeros": 64 words, the representatives of columns 0 to c - 1 and then zeros
+-- "The answer is then zeros": `mostColumns` words, the representatives of columns 0 to c - 1 and then zeros
 unfoldable pub representativesOf : ℕ → ℕ → List ℕ
 representativesOf n c = pick (eqb (representativesNumber n c) 0) (columnWords (found n c .values)) (replicate mostColumns 0)
 

@@ -1,6 +1,6 @@
 -- The search for representatives, for its proofs: its equations, how the code holds the columns found so far, and what is known of them.
 --
--- Main definitions: `stored` (the columns in arrays of 64), `Chosen` (what the search keeps true).
+-- Main definitions: `stored` (the columns in arrays of `mostColumns`), `Chosen` (what the search keeps true).
 -- Main statements: `search-stop`, `search-next`; `tried-kept`, `tried-residue`, `tried-coset`; `absent-apart`; `search-chosen`, `found-chosen`.
 use mathlib.Core.Path.{_≡_, refl, sym, ap, _∙_}
 use mathlib.Core.Logic.{_≢_, _⊎_, inl, inr}

@@ -4,7 +4,7 @@ ghost use Prim.Native.Nat.{ℕ, _+_, _*_, _≤_, _<_};
 ghost use lib.ListN.{length, getD};
 ghost use Rattle.base.specs.Fills.{Filled};
 ghost use Rattle.field.specs.Field.{fpow, isNonResidue};
-ghost use Rattle.labels.specs.Ranges.{rangesFit};
+ghost use Rattle.labels.specs.Ranges.{rangesFit, mostColumns};
 ghost use Rattle.labels.specs.Labels.{Columns, domainGenerator, absent, tried, found, representativesNumber, representativesOf, labelOf, labelNumber, labelAnswer, fillNumber, labelsWritten};
 ghost use Rattle.labels.specs.Search.{stored};
 ghost use Rattle.labels.specs.Filling.{rootPower, scaledFrom, negatedFrom, HalfTurn, ColumnZero};
@@ -20,6 +20,9 @@ pub const BUFFER_TOO_SHORT: u64 = 10;
 pub const LONGEST_TRACE: u64 = 65536;
 
 pub const MOST_COLUMNS: u64 = 64;
+
+// A word for each column.
+pub type ColumnWords = [u64; MOST_COLUMNS as usize];
 
 // Whether N and C are within 01's ranges.
 pub fn ranges_fit(n: u64, c: u64) -> bool
@@ -68,14 +71,14 @@ fn is_absent(x: u64, words: &[u64]) -> bool
 // each its N-th power. The words past them are 0.
 struct NonResidues {
     kept: u64,
-    values: [u64; 64],
-    powers: [u64; 64],
+    values: ColumnWords,
+    powers: ColumnWords,
 }
 
 impl NonResidues {
     // The next column takes the candidate if it is a non-residue of a coset of its own.
     fn try_candidate(mut self, n: u64, candidate: u64) -> Self
-        requires { ⌜ self .kept < 64 ⌝ }
+        requires { ⌜ self .kept < mostColumns ⌝ }
         ensures { λ r. ⌜ ((s : Columns) → self ≡ stored s → length (s .powers) ≡ length (s .values) → r ≡ stored (tried isNonResidue (λ k. fpow k n) candidate s)) ⌝ }
     {
         if field::is_non_residue(candidate) {
@@ -94,13 +97,13 @@ impl NonResidues {
 
 // The representatives of c columns, or of as many as the candidates below p give.
 fn make_non_residues(n: u64, c: u64) -> NonResidues
-    requires { ⌜ c ≤ 64 ⌝ }
+    requires { ⌜ c ≤ mostColumns ⌝ }
     ensures { λ r. ⌜ r ≡ stored (found n c) ⌝ }
 {
     let mut found = NonResidues {
         kept: 1,
-        values: [0; 64],
-        powers: [0; 64],
+        values: [0; MOST_COLUMNS as usize],
+        powers: [0; MOST_COLUMNS as usize],
     };
     found.values[0] = 1;
     found.powers[0] = 1;
@@ -118,7 +121,7 @@ fn make_non_residues(n: u64, c: u64) -> NonResidues
 // The representatives of columns 0 to C - 1, then zeros; number 1 or 9 is a refusal.
 pub struct RepresentativesAnswer {
     pub number: u64,
-    pub values: [u64; 64],
+    pub values: ColumnWords,
 }
 
 pub fn representatives(n: u64, c: u64) -> RepresentativesAnswer
@@ -130,7 +133,7 @@ pub fn representatives(n: u64, c: u64) -> RepresentativesAnswer
         if found.kept < c {
             return RepresentativesAnswer {
                 number: CANDIDATES_REACH_P,
-                values: [0; 64],
+                values: [0; MOST_COLUMNS as usize],
             };
         }
         let values = found.values;
@@ -141,7 +144,7 @@ pub fn representatives(n: u64, c: u64) -> RepresentativesAnswer
     }
     RepresentativesAnswer {
         number: OUT_OF_RANGE,
-        values: [0; 64],
+        values: [0; MOST_COLUMNS as usize],
     }
 }
 
@@ -235,7 +238,7 @@ fn materialize_x_poly(n: u64, copies: &mut [u64])
 }
 
 // Columns 1 to c - 1, each its representative times column 0.
-fn materialize_x_by_non_residue_polys(n: usize, c: usize, values: &[u64; 64], copies: &mut [u64])
+fn materialize_x_by_non_residue_polys(n: usize, c: usize, values: &ColumnWords, copies: &mut [u64])
     requires { ⌜ ColumnZero n c (now copies) × HalfTurn n ⌝ }
     ensures { λ r. ⌜ Filled (labelOf n (now (values .entry))) n (c * n) (now (copies .entry)) (now (copies .exit)) ⌝ }
 {

@@ -14,7 +14,7 @@ use lib.Dec.{leb}
 use borrow.Author.Tests.{le-leb, lt-leb, eq-eqb, ne-eqb}
 use Rattle.selector.specs.Gates.{gateWords}
 use Rattle.pieces.specs.Records.{rowSize, tableSize}
-use Rattle.listing.specs.Listing.{parameterWords}
+use Rattle.parameters.specs.Parameters.{parameterWords}
 use Rattle.listing.specs.Ends.{endOf, longAt, fixedEnd, recordsEnd, part, sectionsAt, judged, listingFrom}
 use Rattle.listing.specs.Places.{sectionOf}
 use Rattle.listing.specs.declared.sections.Part.{Part}

@@ -12,7 +12,7 @@ use lib.Dec.{eqb}
 use Rattle.base.specs.Pick.{pick}
 use Rattle.selector.specs.Gates.{gateWords}
 use Rattle.pieces.specs.Records.{rowSize, tableSize}
-use Rattle.listing.specs.Listing.{parameterWords}
+use Rattle.parameters.specs.Parameters.{parameterWords}
 use Rattle.listing.specs.declared.sections.Part.{Part}
 use Rattle.listing.specs.declared.sections.Sections.{Sections}
 use Rattle.listing.specs.declared.sections.Listing.{Listing}

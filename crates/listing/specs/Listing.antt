@@ -12,6 +12,7 @@ use lib.Dec.{leb, eqb}
 use Rattle.base.specs.Pick.{pick}
 use Rattle.selector.specs.Gates.{gateWords}
 use Rattle.pieces.specs.Records.{rowSize, tableSize}
+use Rattle.parameters.specs.Parameters.{parameterWords}
 
 -- words off the front of a list, and those after them
 pub record Taken : Type 0 where
@@ -44,10 +45,6 @@ fixed each xs = each
 -- is read as 0 here: then the two words are not there, and the record is missing.
 abbrev pub headed : (ℕ → ℕ → ℕ) → List ℕ → ℕ
 headed size xs = 2 + size (getD xs 0 0) (getD xs 1 0)
-
--- "parameters (8 words: N, C, A, S, V, mode, W, share flag)"
-abbrev pub parameterWords : ℕ
-parameterWords = 8
 
 -- the words of the six sections, without their counts
 pub record Words : Type 0 where

@@ -17,7 +17,8 @@ use Rattle.base.specs.Pick.{pick}
 use Rattle.base.specs.Drops.{drop-none, drop-one}
 use Rattle.selector.specs.Gates.{gateWords}
 use Rattle.pieces.specs.Records.{rowSize, tableSize}
-use Rattle.listing.specs.Listing.{Taken, off, after, records, section, fixed, headed, parameterWords, Words, eight, ended, sixSections, whole, refused, orTwenty, read}
+use Rattle.parameters.specs.Parameters.{parameterWords}
+use Rattle.listing.specs.Listing.{Taken, off, after, records, section, fixed, headed, Words, eight, ended, sixSections, whole, refused, orTwenty, read}
 use Rattle.listing.specs.Ends.{endOf, longAt, fixedEnd, recordsEnd, listingFrom}
 use Rattle.listing.specs.Places.{wordsAt, partsOf}
 use Rattle.listing.specs.declared.sections.Sections.{Sections}

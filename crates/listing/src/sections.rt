@@ -7,6 +7,7 @@ ghost use lib.Dec.{leb};
 ghost use Rattle.pieces.specs.Records.{rowSize, tableSize};
 ghost use Rattle.listing.specs.Ends.{fixedEnd, recordsEnd, listingFrom};
 ghost use Rattle.listing.specs.Places.{sectionOf};
+use parameters::parameters::PARAMETER_WORDS;
 use selector::GATE_WORDS;
 
 // A section's words: where they begin in the listing, after their count, and how many they are.
@@ -37,9 +38,6 @@ enum Section {
 
 // Words of a gate.
 const GATE_SIZE: u64 = GATE_WORDS as u64;
-
-// Words of the parameters: N, C, A, S, V, mode, W, share flag.
-const PARAMETER_WORDS: usize = 8;
 
 // Whether a times b is at most room. The product itself could wrap.
 fn product_within(a: u64, b: u64, room: u64) -> bool

@@ -1,6 +1,6 @@
 -- 01, 'When a call is turned down', planning's refusals 1 and 2, and the lookup mode that eight parameter words tell of.
 --
--- Main definitions: `parametersAt`, `parametersNumber`, `lookupOf`.
+-- Main definitions: `parameterWords`, `parametersAt`, `parametersNumber`, `lookupOf`.
 use Prim.Native.Nat.{ℕ}
 use lib.Dec.{eqb, leb}
 use lib.ListN.{getD}
@@ -12,7 +12,11 @@ use Rattle.parameters.specs.declared.lookup.LookupParameters.{LookupPara
 use Rattle.parameters.specs.declared.lookup.LookupParameters.the-variants.{NoLookup, TableIdAsConstant, TableIdAsVariable, UseSpecializedColumnsWithTableIdAsConstant, UseSpecializedColumnsWithTableIdAsVariable}
 use Rattle.parameters.specs.declared.parameters.Parameters.{Parameters}
 
--- "parameters (8 words: N, C, A, S, V, mode, W, share flag)"; a word that is not there counts as 0
+-- "parameters (8 words: N, C, A, S, V, mode, W, share flag)"
+abbrev pub parameterWords : ℕ
+parameterWords = 8
+
+-- the parameters by their words; a word that is not there counts as 0
 abbrev pub parametersAt : List ℕ → Parameters
 parametersAt ws =
     record {

@@ -13,6 +13,9 @@ const MOST_VARIABLES: u64 = 1048576;
 
 const MOST_WIDTH: u64 = 16;
 
+// "parameters (8 words: N, C, A, S, V, mode, W, share flag)"
+pub const PARAMETER_WORDS: usize = 8;
+
 // N, C, A, S, V, mode, W and the share flag.
 pub struct Parameters {
     pub trace: u64,

@@ -10,8 +10,9 @@ use mathlib.Core.List.{List, [], _∷_}
 use mathlib.Core.Option.{Option, none, some}
 use mathlib.Core.Path.{_≡_}
 use Rattle.base.specs.Pick.{pick}
+use Rattle.selector.specs.Gates.{gateWords}
 use Rattle.selector.specs.GrowthLaws.{In, Once}
-use Rattle.selector.specs.Nodes.{gateAt, leftAt, put, rightAt}
+use Rattle.selector.specs.Nodes.{gateAt, leftAt, mostLevels, mostNodes, put, rightAt}
 use Rattle.selector.specs.Inner.{depth, Holds}
 use Rattle.selector.specs.Tree.{Tree, size}
 
@@ -51,24 +52,20 @@ offerFork f fit g d i ns n = orElse n (offerNode f fit g d (leftAt ns i) ns n) (
 
 -- children stay within the n nodes, each node's gate has its words in gs, and there is room for two nodes more
 pub record Fine (gs ns : List ℕ) (n i g : ℕ) : Type 0 where
-  pub room : n < 254
+  pub room : n + 2 ≤ mostNodes
   pub here : i < n
-  pub listed : g * 3 + 2 < length gs
+  pub listed : g * gateWords + 2 < length gs
   pub lefts : (k : ℕ) → k < n → leftAt ns k < n
   pub rights : (k : ℕ) → k < n → rightAt ns k < n
-  pub gates : (k : ℕ) → k < n → gateAt ns k * 3 + 2 < length gs
+  pub gates : (k : ℕ) → k < n → gateAt ns k * gateWords + 2 < length gs
 
--- levels enough for every bound
-abbrev pub levels : ℕ
-levels = 32
-
--- the gates of a list, offered in order; a refusal leaves no count
+-- the gates of a list, offered in order, with levels enough for every bound; a refusal leaves no count
 unfoldable pub growFrom : (ℕ → ℕ → Bool) → List ℕ → List ℕ → ℕ → Placed
 growFrom fit [] ns n = placed ns n
 growFrom fit (g ∷ rest) ns n =
-    pick (eqb (offerNode levels fit g 0 0 ns n .count) n)
+    pick (eqb (offerNode mostLevels fit g 0 0 ns n .count) n)
     (placed ns 0)
-    (growFrom fit rest (offerNode levels fit g 0 0 ns n .nodes) (offerNode levels fit g 0 0 ns n .count))
+    (growFrom fit rest (offerNode mostLevels fit g 0 0 ns n .nodes) (offerNode mostLevels fit g 0 0 ns n .count))
 
 -- the whole tree: the first gate alone, then the others
 unfoldable pub growFlat : (ℕ → ℕ → Bool) → List ℕ → List ℕ → Placed
@@ -82,8 +79,8 @@ pub record Stood (m : ℕ) (t : Tree) (ns : List ℕ) (n : ℕ) : Type 0 where
   pub once : Once t
   pub listed : (g : ℕ) → In g t → g < m
   pub sized : n ≡ size t
-  pub small : n ≤ 255
-  pub deep : depth t ≤ 32
+  pub small : n ≤ mostNodes
+  pub deep : depth t ≤ mostLevels
 
 -- what a search leaves: no count where there is no tree, else the tree
 abbrev pub Stands : ℕ → Option Tree → List ℕ → ℕ → Type 0

@@ -14,10 +14,11 @@ use native.Mathlib.Decide.{decLt, ℕ-discrete}
 use native.Mathlib.Omega.{arith}
 use Rattle.base.specs.Pick.{pick}
 use Rattle.selector.specs.Flat.{Fine, Placed, offerFork, offerLeaf, offerNode, orElse, placed, splitFlat}
+use Rattle.selector.specs.Gates.{gateWords}
 use Rattle.selector.specs.GrowthLaws.{In, Once}
 use Rattle.selector.specs.NodeLaws.{length-put, put-gate, put-gate-other, put-left, put-left-other, put-right, put-right-other}
 use Rattle.selector.specs.Inner.{Holds}
-use Rattle.selector.specs.Nodes.{gateAt, leftAt, put, rightAt}
+use Rattle.selector.specs.Nodes.{gateAt, leftAt, mostNodes, nodeSize, put, rightAt}
 use Rattle.selector.specs.Tree.{Tree, fork, leaf, offer, orFork}
 
 -- an offer leaves the nodes and the count, or adds two nodes
@@ -105,7 +106,7 @@ pub fine-right : {gs ns : List ℕ} {n i g : ℕ} (l : List ℕ) → l ≡ ns �
 fine-right {i = i} l e h = rw e (fine-at h _ (h .rights i (h .here)))
 
 -- the nodes after a split of the leaf j
-module _ (ns : List ℕ) (n j g : ℕ) (here : j < n) (room : n * 3 + 5 < length ns) where
+module _ (ns : List ℕ) (n j g : ℕ) (here : j < n) (room : (n + 2) * nodeSize ≤ length ns) where
   -- the nodes with the first, and with both new leaves
   abbrev pub one : List ℕ
   one = put ns n 0 0 (gateAt ns j)
@@ -205,7 +206,7 @@ abbrev pub Match : List ℕ → ℕ → ℕ → Tree → ℕ → Option Tree →
 Match ns n i t g none p = p ≡ placed ns n
 Match ns n i t g (some u) p = Grown ns n i t g u p
 
-module _ (ns : List ℕ) (n g : ℕ) (room : n * 3 + 5 < length ns) where
+module _ (ns : List ℕ) (n g : ℕ) (room : (n + 2) * nodeSize ≤ length ns) where
   leaf-match : (i : ℕ) → i < n → leftAt ns i ≡ 0 → (x y : Bool)
       → Match ns n i (leaf (gateAt ns i)) g
       (pick x (pick y (some (fork (leaf (gateAt ns i)) (leaf g))) none) none)
@@ -279,7 +280,7 @@ module _ (fit : ℕ → ℕ → Bool) (c g : ℕ) (full : (h d : ℕ) → c < d 
   at-zero t d i e = rw (too-deep t d e) refl
 
   -- the level cut-off never changes an answer: the flat offer is the tree's, where the levels reach to the bound
-  pub implements : n * 3 + 5 < length ns → (t : Tree) (f d i : ℕ) → Once t → c ≤ d + f → Holds ns n i t
+  pub implements : (n + 2) * nodeSize ≤ length ns → (t : Tree) (f d i : ℕ) → Once t → c ≤ d + f → Holds ns n i t
       → Match ns n i t g (offer fit g d t) (offerNode f fit g d i ns n)
   unfolding offer offerLeaf
   implements room (leaf h) zero d i once e held = rw (node-none fit g ns n 0 d i refl) (at-zero (leaf h) d i (omega arith))
@@ -335,7 +336,7 @@ which n j k h (no a) (yes b) c = as-before b a
 which n j k h (no a) (no b) (yes c) = old-one c
 which n j k h (no a) (no b) (no c) = new-one (omega arith)
 
-module _ (gs ns : List ℕ) (n i g j x : ℕ) (fine : Fine gs ns n i g) (inside : j < n) (room : n * 3 + 5 < length ns) (listed : x * 3 + 2 < length gs) where
+module _ (gs ns : List ℕ) (n i g j x : ℕ) (fine : Fine gs ns n i g) (inside : j < n) (room : (n + 2) * nodeSize ≤ length ns) (listed : x * gateWords + 2 < length gs) where
   lefts-by : (k : ℕ) → Which n j k → leftAt (splitFlat ns n j x) k < n + 2
   lefts-by k (split-one e) = rw (e, split-left ns n j x inside room) (omega arith)
   lefts-by k (as-before a b) = rw (split-left-other ns n j x inside room k a b) (omega (arith, fine .lefts k a))
@@ -348,14 +349,14 @@ module _ (gs ns : List ℕ) (n i g j x : ℕ) (fine : Fine gs ns n i g) (inside 
   rights-by k (old-one e) = rw (e, old-right ns n j x inside room) (omega arith)
   rights-by k (new-one e) = rw (e, new-right ns n j x inside room) (omega arith)
 
-  gates-by : (k : ℕ) → Which n j k → gateAt (splitFlat ns n j x) k * 3 + 2 < length gs
+  gates-by : (k : ℕ) → Which n j k → gateAt (splitFlat ns n j x) k * gateWords + 2 < length gs
   gates-by k (split-one e) = rw (e, split-gate ns n j x inside room) (omega arith)
   gates-by k (as-before a b) = rw (split-gate-other ns n j x inside room k a b) (fine .gates k a)
   gates-by k (old-one e) = rw (e, old-gate ns n j x inside room) (fine .gates j inside)
   gates-by k (new-one e) = rw (e, new-gate ns n j x inside room) listed
 
   -- a split leaves the nodes fit for the next offer, y, to the node at the root
-  pub fine-split : (y : ℕ) → n + 2 < 254 → y * 3 + 2 < length gs → Fine gs (splitFlat ns n j x) (n + 2) 0 y
+  pub fine-split : (y : ℕ) → n + 2 + 2 ≤ mostNodes → y * gateWords + 2 < length gs → Fine gs (splitFlat ns n j x) (n + 2) 0 y
   fine-split y more next =
       record {
         room = more;

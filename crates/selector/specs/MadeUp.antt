@@ -8,7 +8,7 @@ use mathlib.Core.List.{List}
 use mathlib.Core.Option.{Option, none, some}
 use Rattle.base.specs.Pick.{pick}
 use Rattle.selector.specs.Gates.{kindOf}
-use Rattle.selector.specs.Nodes.{leftAt, rightAt, treeAt}
+use Rattle.selector.specs.Nodes.{leftAt, mostLevels, mostNodes, rightAt, treeAt}
 use Rattle.selector.specs.Search.{factorOf, treeD, treeK}
 use Rattle.selector.specs.Tree.{Tree, fork, leaf, standing}
 
@@ -22,14 +22,6 @@ linkedAt ns n i =
 unfoldable pub linkedFrom : ℕ → List ℕ → ℕ → ℕ → Bool
 linkedFrom zero ns n i = true
 linkedFrom (suc k) ns n i = pick (linkedAt ns n i) (linkedFrom k ns n (i + 1)) false
-
--- "a leaf below depth 31": a tree has at most this many levels, so that depth 31 is the last
-abbrev pub mostLevels : ℕ
-mostLevels = 32
-
--- as many nodes as 128 leaves ask for
-abbrev pub mostNodes : ℕ
-mostNodes = 255
 
 -- every leaf is a listed gate
 unfoldable pub allListed : ℕ → Tree → Bool

@@ -15,9 +15,9 @@ use native.Mathlib.Omega.{arith}
 use Rattle.base.specs.Exponent.{exponent, exponent-least}
 use Rattle.base.specs.Pick.{both, both-true, pick, pick-yes}
 use Rattle.selector.specs.Gates.{constantsOf, constantsWord, degreeOf, kindOf, placedGates}
-use Rattle.selector.specs.MadeUp.{allListed, asWanted, justOnce, linkedAt, linkedFrom, mostLevels, mostNodes, nodesFit, numbersAre, numbersFit, treeFits, wanted}
+use Rattle.selector.specs.MadeUp.{allListed, asWanted, justOnce, linkedAt, linkedFrom, nodesFit, numbersAre, numbersFit, treeFits, wanted}
 use Rattle.selector.specs.NodeLaws.{Agrees, left-agrees, mid, mid-room, own-tree, put-left, put-right, right-agrees, root-left, root-right, self-agrees, size-some, tree-shallow}
-use Rattle.selector.specs.Nodes.{laid, leftAt, nodeWords, rightAt, treeAt}
+use Rattle.selector.specs.Nodes.{laid, leftAt, mostLevels, mostNodes, nodeSize, nodeSlots, nodeWords, rightAt, treeAt}
 use Rattle.selector.specs.RecordLaws.{constants-small, marker-bare, records-each, top-constants}
 use Rattle.selector.specs.Refusals.{recordNumber, recordsNumber}
 use Rattle.selector.specs.Search.{constantsOver, planTree, searchTree, treeD, treeF, treeK}
@@ -81,7 +81,7 @@ leaf-linked : (ms : List ℕ) (n k : ℕ) → leftAt ms k ≡ 0 → rightAt ms k
 unfolding linkedAt
 leaf-linked ms n k e f = rw (eq-eqb (leftAt ms k) 0 e, eq-eqb (rightAt ms k) 0 f)
 
-laid-linked : (t : Tree) (i n : ℕ) (ns ms : List ℕ) → (i + size t) * 3 ≤ length ns → i + size t ≤ n → Agrees t i ns ms
+laid-linked : (t : Tree) (i n : ℕ) (ns ms : List ℕ) → (i + size t) * nodeSize ≤ length ns → i + size t ≤ n → Agrees t i ns ms
     → (k : ℕ) → i ≤ k → k < i + size t → linkedAt ms n k ≡ true
 unfolding laid
 laid-linked (leaf g) i n ns ms room h e k a b =
@@ -110,7 +110,7 @@ linked-all ns n (suc k) i h =
     pick-yes (linkedAt ns n i) (linkedFrom k ns n (i + 1)) false (h i (omega arith) (omega arith))
     ∙ linked-all ns n k (i + 1) (λ j a b. h j (omega arith) (omega arith))
 
-module _ (t : Tree) (ns : List ℕ) (room : size t * 3 ≤ length ns) where
+module _ (t : Tree) (ns : List ℕ) (room : size t * nodeSize ≤ length ns) where
   own-linked : linkedFrom (size t) (laid t 0 ns) (size t) 0 ≡ true
   own-linked = linked-all (laid t 0 ns) (size t) (size t) 0 (λ k a b. laid-linked t 0 (size t) ns (laid t 0 ns) (omega arith) (omega arith) (self-agrees t 0 ns) k a b)
 
@@ -148,11 +148,11 @@ module _ (gs : List ℕ) (m x : ℕ) where
   unfolding numbersFit numbersAre
   numbers-own t = rw (eq-eqb (treeD gs t) (treeD gs t) refl, eq-eqb (treeK x gs t) (treeK x gs t) refl) (eq-eqb (treeF gs t) (treeF gs t) refl)
 
-  own-by : (t : Tree) → size t ≤ 255 → depth t ≤ 31 → justOnce gs m t ≡ true
+  own-by : (t : Tree) → size t ≤ mostNodes → depth t < mostLevels → justOnce gs m t ≡ true
       → nodesFit x gs m (nodeWords t) (size t) (treeD gs t) (treeK x gs t) (treeF gs t) ≡ true
   unfolding nodesFit treeFits
   own-by t s d j =
-      rw (lt-ltb 0 (size t) (size-some t), le-leb (size t) 255 s, own-linked t (replicate 765 0) (omega arith), own-tree t (replicate 765 0) (omega arith) mostLevels (omega arith), j)
+      rw (lt-ltb 0 (size t) (size-some t), le-leb (size t) mostNodes s, own-linked t (replicate nodeSlots 0) (omega arith), own-tree t (replicate nodeSlots 0) (omega arith) mostLevels (omega arith), j)
       (numbers-own t)
 
   module _ (sound : Sound gs m x) where
@@ -199,7 +199,7 @@ pub record Sturdy (x : ℕ) (gs : List ℕ) (m : ℕ) (ns : List ℕ) (n d k f :
   pub few : n ≤ mostNodes
   pub linked : Links ns n
   pub is : treeAt mostLevels ns 0 ≡ some tree
-  pub deep : depth tree ≤ 31
+  pub deep : depth tree < mostLevels
   pub listed : allListed m tree ≡ true
   pub once : (g : ℕ) → g < m → standing g tree ≡ wanted gs m g
   pub most : k ≡ treeK x gs tree

@@ -12,7 +12,7 @@ use mathlib.Core.Option.{Option, none, some}
 use mathlib.Core.Path.{_∙_, _≡_, ap, refl, subst}
 use native.Mathlib.Omega.{arith}
 use Rattle.base.specs.Pick.{pick}
-use Rattle.selector.specs.Nodes.{bothSides, gateAt, laid, leftAt, put, rightAt, treeAt}
+use Rattle.selector.specs.Nodes.{bothSides, gateAt, laid, leftAt, nodeSize, put, rightAt, treeAt}
 use Rattle.selector.specs.Inner.{depth, Holds}
 use Rattle.selector.specs.Tree.{Tree, fork, leaf, size}
 
@@ -22,35 +22,35 @@ module _ (ns : List ℕ) (i l r g : ℕ) where
 
   pub put-left-other : (k : ℕ) → (k ≡ i → ⊥) → leftAt (put ns i l r g) k ≡ leftAt ns k
   put-left-other k h =
-      getD-set-other (set (set ns (i * 3) l) (i * 3 + 1) r) (i * 3 + 2) (k * 3) g 0 (omega arith)
-      ∙ getD-set-other (set ns (i * 3) l) (i * 3 + 1) (k * 3) r 0 (omega arith)
-      ∙ getD-set-other ns (i * 3) (k * 3) l 0 (omega arith)
+      getD-set-other (set (set ns (i * nodeSize) l) (i * nodeSize + 1) r) (i * nodeSize + 2) (k * nodeSize) g 0 (omega arith)
+      ∙ getD-set-other (set ns (i * nodeSize) l) (i * nodeSize + 1) (k * nodeSize) r 0 (omega arith)
+      ∙ getD-set-other ns (i * nodeSize) (k * nodeSize) l 0 (omega arith)
 
   pub put-right-other : (k : ℕ) → (k ≡ i → ⊥) → rightAt (put ns i l r g) k ≡ rightAt ns k
   put-right-other k h =
-      getD-set-other (set (set ns (i * 3) l) (i * 3 + 1) r) (i * 3 + 2) (k * 3 + 1) g 0 (omega arith)
-      ∙ getD-set-other (set ns (i * 3) l) (i * 3 + 1) (k * 3 + 1) r 0 (omega arith)
-      ∙ getD-set-other ns (i * 3) (k * 3 + 1) l 0 (omega arith)
+      getD-set-other (set (set ns (i * nodeSize) l) (i * nodeSize + 1) r) (i * nodeSize + 2) (k * nodeSize + 1) g 0 (omega arith)
+      ∙ getD-set-other (set ns (i * nodeSize) l) (i * nodeSize + 1) (k * nodeSize + 1) r 0 (omega arith)
+      ∙ getD-set-other ns (i * nodeSize) (k * nodeSize + 1) l 0 (omega arith)
 
   pub put-gate-other : (k : ℕ) → (k ≡ i → ⊥) → gateAt (put ns i l r g) k ≡ gateAt ns k
   put-gate-other k h =
-      getD-set-other (set (set ns (i * 3) l) (i * 3 + 1) r) (i * 3 + 2) (k * 3 + 2) g 0 (omega arith)
-      ∙ getD-set-other (set ns (i * 3) l) (i * 3 + 1) (k * 3 + 2) r 0 (omega arith)
-      ∙ getD-set-other ns (i * 3) (k * 3 + 2) l 0 (omega arith)
+      getD-set-other (set (set ns (i * nodeSize) l) (i * nodeSize + 1) r) (i * nodeSize + 2) (k * nodeSize + 2) g 0 (omega arith)
+      ∙ getD-set-other (set ns (i * nodeSize) l) (i * nodeSize + 1) (k * nodeSize + 2) r 0 (omega arith)
+      ∙ getD-set-other ns (i * nodeSize) (k * nodeSize + 2) l 0 (omega arith)
 
-  pub put-left : i * 3 + 2 < length ns → leftAt (put ns i l r g) i ≡ l
+  pub put-left : i * nodeSize + 2 < length ns → leftAt (put ns i l r g) i ≡ l
   put-left h =
-      getD-set-other (set (set ns (i * 3) l) (i * 3 + 1) r) (i * 3 + 2) (i * 3) g 0 (omega arith)
-      ∙ getD-set-other (set ns (i * 3) l) (i * 3 + 1) (i * 3) r 0 (omega arith)
-      ∙ getD-set-same ns (i * 3) l 0 (omega arith)
+      getD-set-other (set (set ns (i * nodeSize) l) (i * nodeSize + 1) r) (i * nodeSize + 2) (i * nodeSize) g 0 (omega arith)
+      ∙ getD-set-other (set ns (i * nodeSize) l) (i * nodeSize + 1) (i * nodeSize) r 0 (omega arith)
+      ∙ getD-set-same ns (i * nodeSize) l 0 (omega arith)
 
-  pub put-right : i * 3 + 2 < length ns → rightAt (put ns i l r g) i ≡ r
+  pub put-right : i * nodeSize + 2 < length ns → rightAt (put ns i l r g) i ≡ r
   put-right h =
-      getD-set-other (set (set ns (i * 3) l) (i * 3 + 1) r) (i * 3 + 2) (i * 3 + 1) g 0 (omega arith)
-      ∙ getD-set-same (set ns (i * 3) l) (i * 3 + 1) r 0 (simp length-set (omega arith))
+      getD-set-other (set (set ns (i * nodeSize) l) (i * nodeSize + 1) r) (i * nodeSize + 2) (i * nodeSize + 1) g 0 (omega arith)
+      ∙ getD-set-same (set ns (i * nodeSize) l) (i * nodeSize + 1) r 0 (simp length-set (omega arith))
 
-  pub put-gate : i * 3 + 2 < length ns → gateAt (put ns i l r g) i ≡ g
-  put-gate h = getD-set-same (set (set ns (i * 3) l) (i * 3 + 1) r) (i * 3 + 2) g 0 (simp length-set (omega arith))
+  pub put-gate : i * nodeSize + 2 < length ns → gateAt (put ns i l r g) i ≡ g
+  put-gate h = getD-set-same (set (set ns (i * nodeSize) l) (i * nodeSize + 1) r) (i * nodeSize + 2) g 0 (simp length-set (omega arith))
 
 -- node k has the same words in both
 pub record Same (ns ms : List ℕ) (k : ℕ) : Type 0 where
@@ -87,7 +87,7 @@ laid-before (fork l r) i ns k h =
 abbrev pub Agrees : Tree → ℕ → List ℕ → List ℕ → Type 0
 Agrees t i ns ms = (k : ℕ) → i ≤ k → k < i + size t → Same (laid t i ns) ms k
 
-module _ (l r : Tree) (i : ℕ) (ns ms : List ℕ) (room : (i + size (fork l r)) * 3 ≤ length ns) (e : Agrees (fork l r) i ns ms) where
+module _ (l r : Tree) (i : ℕ) (ns ms : List ℕ) (room : (i + size (fork l r)) * nodeSize ≤ length ns) (e : Agrees (fork l r) i ns ms) where
   j : ℕ
   j = i + 1 + size l
 
@@ -117,10 +117,10 @@ module _ (l r : Tree) (i : ℕ) (ns ms : List ℕ) (room : (i + size (fork l r))
   pub root-right : rightAt ms i ≡ i + 1 + size l
   root-right = root .right ∙ put-right (laid l (i + 1) ns) i (i + 1) (i + 1 + size l) 0 (omega (arith, long))
 
-  pub mid-room : (i + 1 + size l + size r) * 3 ≤ length mid
+  pub mid-room : (i + 1 + size l + size r) * nodeSize ≤ length mid
   mid-room = omega (arith, long, length-put (laid l (i + 1) ns) i (i + 1) (i + 1 + size l) 0)
 
-laid-holds : (t : Tree) (i n : ℕ) (ns ms : List ℕ) → (i + size t) * 3 ≤ length ns → i + size t ≤ n → Agrees t i ns ms → Holds ms n i t
+laid-holds : (t : Tree) (i n : ℕ) (ns ms : List ℕ) → (i + size t) * nodeSize ≤ length ns → i + size t ≤ n → Agrees t i ns ms → Holds ms n i t
 unfolding laid
 laid-holds (leaf g) i n ns ms room h e =
     let s = e i (omega arith) (omega arith) in
@@ -144,7 +144,7 @@ decoded ns n (fork l r) (suc f) i h (a, b, x, y) =
 pub self-agrees : (t : Tree) (i : ℕ) (ns : List ℕ) → Agrees t i ns (laid t i ns)
 self-agrees t i ns k a b = record { left = refl; right = refl; gate = refl }
 
-module _ (t : Tree) (ns : List ℕ) (room : size t * 3 ≤ length ns) where
+module _ (t : Tree) (ns : List ℕ) (room : size t * nodeSize ≤ length ns) where
   pub own-holds : Holds (laid t 0 ns) (size t) 0 t
   own-holds = laid-holds t 0 (size t) ns (laid t 0 ns) (omega arith) (omega arith) (self-agrees t 0 ns)
 

@@ -67,7 +67,7 @@ module _ (gs : List ℕ) (m x : ℕ) (sound : Sound gs m x) where
   unfolding constantsOf
   constants-small g h = by (eqb (kindOf gs g) 3)
     where
-      by : (t : Bool) → pick t x (getD gs (g * 3 + 2) 0) ≤ 16
+      by : (t : Bool) → pick t x (getD gs (g * gateWords + 2) 0) ≤ 16
       by true = omega (arith, sound .extra)
       by false = sound .constants g h
 

@@ -11,24 +11,25 @@ use mathlib.Core.Logic.{inl, inr, ⊎-elim}
 use mathlib.Core.Option.{Option, none, some}
 use mathlib.Core.Path.{_∙_, _≡_, ap, refl, subst}
 use native.Mathlib.Omega.{arith}
+use Rattle.base.specs.Limits.{mostGates}
 use Rattle.base.specs.Pick.{pick}
-use Rattle.selector.specs.Flat.{Placed, Stands, growFlat, growFrom, levels, offerNode, placed, splitFlat}
+use Rattle.selector.specs.Flat.{Placed, Stands, growFlat, growFrom, offerNode, placed, splitFlat}
 use Rattle.selector.specs.FlatLaws.{Grown, Match, implements, length-split, spot}
 use Rattle.selector.specs.Inner.{Among, Distinct, Listed, depth, Holds}
 use Rattle.selector.specs.GrowthLaws.{In, Kept, Once, Within, offer-kept, offer-within}
 use Rattle.selector.specs.NodeLaws.{length-put, put-gate, put-left}
-use Rattle.selector.specs.Nodes.{put}
+use Rattle.selector.specs.Nodes.{mostLevels, mostNodes, nodeSize, nodeSlots, put}
 use Rattle.selector.specs.Tree.{Tree, andThen, fork, grown, leaf, offer, offerAll, size}
 
-module _ (m c : ℕ) (deep : c ≤ levels) (fit : ℕ → ℕ → Bool) (full : (g d : ℕ) → c < d → fit g d ≡ false) where
+module _ (m c : ℕ) (deep : c ≤ mostLevels) (fit : ℕ → ℕ → Bool) (full : (g d : ℕ) → c < d → fit g d ≡ false) where
   -- what holds before the gates of a list are offered
   pub record Ready (l : List ℕ) (u : Tree) (ns : List ℕ) (n : ℕ) : Type 0 where
     pub once : Once u
     pub apart : (h : ℕ) → In h u → Among h l → ⊥
     pub rest : Distinct l
     pub holds : Holds ns n 0 u
-    pub room : n + length l * 2 ≤ 255
-    pub long : length ns ≡ 765
+    pub room : n + length l * 2 ≤ mostNodes
+    pub long : length ns ≡ nodeSlots
     pub listed : (h : ℕ) → In h u → h < m
     pub all : Listed m l
     pub sized : n ≡ size u
@@ -37,7 +38,7 @@ module _ (m c : ℕ) (deep : c ≤ levels) (fit : ℕ → ℕ → Bool) (full : 
   ready-next : (g : ℕ) (l : List ℕ) (u v : Tree) (ns : List ℕ) (n : ℕ) (p : Placed) → Ready (g ∷ l) u ns n → (y : Grown ns n 0 u g v p) → Kept g u (some v) → Within c 0 (some v)
       → Ready l v (splitFlat ns n (y .spot) g) (n + 2)
   ready-next g l u v ns n p w y kept within =
-      let room : n * 3 + 5 < length ns = omega (arith, w .room, w .long) in
+      let room : (n + 2) * nodeSize ≤ length ns = omega (arith, w .room, w .long) in
       record {
         once = kept .1 (λ z. w .apart g z (inl refl)) (w .once);
         apart = λ h z i. ⊎-elim (λ a. w .apart h a (inr i)) (λ b. w .rest .0 (subst (λ (k : ℕ). Among k l) b i)) (kept .0 h z);
@@ -82,14 +83,14 @@ module _ (m c : ℕ) (deep : c ≤ levels) (fit : ℕ → ℕ → Bool) (full : 
         deep = omega (arith, w .within);
       }
   run (g ∷ l) u ns n w =
-      run-by g l u ns n w (offer fit g 0 u) (offerNode levels fit g 0 0 ns n)
-      (implements fit c g full ns n (omega (arith, w .room, w .long)) u levels 0 0 (w .once) (omega arith) (w .holds))
+      run-by g l u ns n w (offer fit g 0 u) (offerNode mostLevels fit g 0 0 ns n)
+      (implements fit c g full ns n (omega (arith, w .room, w .long)) u mostLevels 0 0 (w .once) (omega arith) (w .holds))
       (offer-kept fit g u 0)
       (offer-within c fit full g u 0 (w .within))
       (λ v ms k r. run l v ms k r)
       (growFrom fit (g ∷ l) ns n) refl
 
-  ready-first : (g : ℕ) (l ns : List ℕ) → Distinct (g ∷ l) → Listed m (g ∷ l) → length l ≤ 127 → length ns ≡ 765 → Ready l (leaf g) (put ns 0 0 0 g) 1
+  ready-first : (g : ℕ) (l ns : List ℕ) → Distinct (g ∷ l) → Listed m (g ∷ l) → length l < mostGates → length ns ≡ nodeSlots → Ready l (leaf g) (put ns 0 0 0 g) 1
   ready-first g l ns d a k e =
       record {
         once = tt;
@@ -110,7 +111,7 @@ module _ (m c : ℕ) (deep : c ≤ levels) (fit : ℕ → ℕ → Bool) (full : 
   stands-pick false q p ns r = refl
 
   -- what `grow` leaves: no count if there is no such tree, else the tree's nodes
-  pub whole : (l ns : List ℕ) → Distinct l → Listed m l → length l ≤ 128 → length ns ≡ 765
+  pub whole : (l ns : List ℕ) → Distinct l → Listed m l → length l ≤ mostGates → length ns ≡ nodeSlots
       → Stands m (grown fit l) (growFlat fit l ns .nodes) (growFlat fit l ns .count)
   unfolding grown growFlat
   whole [] ns d a k e = refl
@@ -118,6 +119,6 @@ module _ (m c : ℕ) (deep : c ≤ levels) (fit : ℕ → ℕ → Bool) (full : 
       stands-pick (fit g 0) (offerAll fit l (leaf g)) (growFrom fit l (put ns 0 0 0 g) 1) ns
       (run l (leaf g) (put ns 0 0 0 g) 1 (ready-first g l ns d a (omega arith) e))
 
-  pub flat-grows : (l ns ms : List ℕ) (n : ℕ) → Distinct l → Listed m l → length l ≤ 128 → length ns ≡ 765 → growFlat fit l ns ≡ placed ms n
+  pub flat-grows : (l ns ms : List ℕ) (n : ℕ) → Distinct l → Listed m l → length l ≤ mostGates → length ns ≡ nodeSlots → growFlat fit l ns ≡ placed ms n
       → Stands m (grown fit l) ms n
   flat-grows l ns ms n d a k e same = subst (λ (p : Placed). Stands m (grown fit l) (p .nodes) (p .count)) same (whole l ns d a k e)

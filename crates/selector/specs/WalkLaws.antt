@@ -16,9 +16,9 @@ use native.Mathlib.Omega.{arith}
 use Rattle.base.specs.Pick.{both, pick, pick-no, pick-yes}
 use Rattle.selector.specs.Gates.{constantsOf, degreeAt}
 use Rattle.selector.specs.MadeUpLaws.{wanted-few}
-use Rattle.selector.specs.MadeUp.{allListed, asWanted, justOnce, linkedFrom, mostLevels, mostNodes, nodesFit, numbersAre, numbersFit, treeFits, wanted}
+use Rattle.selector.specs.MadeUp.{allListed, asWanted, justOnce, linkedFrom, nodesFit, numbersAre, numbersFit, treeFits, wanted}
 use Rattle.selector.specs.NodeLaws.{at-fork, at-leaf}
-use Rattle.selector.specs.Nodes.{bothSides, gateAt, leftAt, rightAt, treeAt}
+use Rattle.selector.specs.Nodes.{bothSides, gateAt, leftAt, mostLevels, mostNodes, rightAt, treeAt}
 use Rattle.base.specs.Limits.{mostGates}
 use Rattle.selector.specs.Search.{constantsOver, degreeOver, treeD, treeK}
 use Rattle.selector.specs.Tree.{Tree, fork, leaf, standing}
@@ -79,7 +79,7 @@ module _ (x : ℕ) (gs : List ℕ) (m : ℕ) (few : m ≤ mostGates) where
   pub record Good (c : ℕ → ℕ) (t : Tree) (d : ℕ) (w v : Walk) : Type 0 where
     pub listed : allListed m t ≡ true
     pub marks : (g : ℕ) → g < m → getD (v .marks) g 0 ≡ c g + standing g t
-    pub long : length (v .marks) ≡ 128
+    pub long : length (v .marks) ≡ mostGates
     pub fine : v .fine ≡ true
     pub degree : v .degree ≡ max (w .degree) (degreeOver gs d t)
     pub constants : v .constants ≡ max (w .constants) (constantsOver x gs d t)
@@ -104,7 +104,7 @@ module _ (x : ℕ) (gs : List ℕ) (m : ℕ) (few : m ≤ mostGates) where
   unfolding allListed
   enlisted g h = lt-ltb g m h
 
-  leaf-good : (c : ℕ → ℕ) (g d : ℕ) (w : Walk) → ((h : ℕ) → h < m → getD (w .marks) h 0 ≡ c h) → length (w .marks) ≡ 128 → g < m → getD (w .marks) g 0 ≡ 0
+  leaf-good : (c : ℕ → ℕ) (g d : ℕ) (w : Walk) → ((h : ℕ) → h < m → getD (w .marks) h 0 ≡ c h) → length (w .marks) ≡ mostGates → g < m → getD (w .marks) g 0 ≡ 0
       → (v : Walk) → v ≡ met w g (degreeAt gs g d) (constantsOf x gs g + d)
       → Good c (leaf g) d w v
   unfolding degreeOver constantsOver
@@ -122,7 +122,7 @@ module _ (x : ℕ) (gs : List ℕ) (m : ℕ) (few : m ≤ mostGates) where
       at k j (yes q) = rw (q, getD-set-same (w .marks) g 1 0 (omega arith)) (omega (arith, self g, mk g h))
       at k j (no q) = getD-set-other (w .marks) g k 1 0 q ∙ omega (arith, other g k q, mk k j)
 
-  leaf-by : (c : ℕ → ℕ) (g d : ℕ) (w : Walk) → ((h : ℕ) → h < m → getD (w .marks) h 0 ≡ c h) → length (w .marks) ≡ 128 → Dec (g < m) → Dec (getD (w .marks) g 0 ≡ 0)
+  leaf-by : (c : ℕ → ℕ) (g d : ℕ) (w : Walk) → ((h : ℕ) → h < m → getD (w .marks) h 0 ≡ c h) → length (w .marks) ≡ mostGates → Dec (g < m) → Dec (getD (w .marks) g 0 ≡ 0)
       → Good c (leaf g) d w (meet x gs m g d w) ⊎ Bad c (leaf g) (meet x gs m g d w)
   leaf-by c g d w mk long (no h) q =
       inr (record { fine = ap (λ (y : Walk). y .fine) (meet-far x gs m g d w (omega arith)); cause = inl (unlisted g (omega arith)) })
@@ -152,7 +152,7 @@ module _ (x : ℕ) (gs : List ℕ) (m : ℕ) (few : m ≤ mostGates) where
   fork-stop c l r v b =
       record { fine = b .fine; cause = ⊎-elim (λ e. inl (pick-no (allListed m l) (allListed m r) false e)) (λ q. inr (q .0, q .1, omega (arith, q .2))) (b .cause) }
 
-  pub outcome : (t : Tree) (c : ℕ → ℕ) (d : ℕ) (w : Walk) → ((g : ℕ) → g < m → getD (w .marks) g 0 ≡ c g) → length (w .marks) ≡ 128
+  pub outcome : (t : Tree) (c : ℕ → ℕ) (d : ℕ) (w : Walk) → ((g : ℕ) → g < m → getD (w .marks) g 0 ≡ c g) → length (w .marks) ≡ mostGates
       → Good c t d w (meetAll x gs m t d w) ⊎ Bad c t (meetAll x gs m t d w)
   unfolding meetAll
   outcome (leaf g) c d w mk long = leaf-by c g d w mk long (decLt g m) (ℕ-discrete (getD (w .marks) g 0) 0)
@@ -173,7 +173,7 @@ module _ (x : ℕ) (gs : List ℕ) (m : ℕ) (few : m ≤ mostGates) where
           (λ b. inr (subst (λ (y : Walk). Bad c (fork l r) y) (sym e) (fork-off c l r d w u (meetAll x gs m r (d + 1) u) a b))) q
 
       by : Good c l (d + 1) w u ⊎ Bad c l u
-          → (((g : ℕ) → g < m → getD (u .marks) g 0 ≡ c g + standing g l) → length (u .marks) ≡ 128
+          → (((g : ℕ) → g < m → getD (u .marks) g 0 ≡ c g + standing g l) → length (u .marks) ≡ mostGates
           → Good (λ (g : ℕ). c g + standing g l) r (d + 1) u (meetAll x gs m r (d + 1) u) ⊎ Bad (λ (g : ℕ). c g + standing g l) r (meetAll x gs m r (d + 1) u))
           → Good c (fork l r) d w v ⊎ Bad c (fork l r) v
       by (inl a) more = on a (more (a .marks) (a .long))
@@ -246,7 +246,7 @@ module _ (x : ℕ) (gs : List ℕ) (m : ℕ) (few : m ≤ mostGates) (d k f : �
   fits-asked none v h = sym (pick-no (v .fine) _ false h)
   fits-asked (some t) v h =
       rw h (tree-asked t (meetAll x gs m t 0 nothing)
-      (outcome x gs m few t (λ (g : ℕ). 0) 0 nothing (λ g l. getD-replicate 128 g 0 0 (omega arith)) refl))
+      (outcome x gs m few t (λ (g : ℕ). 0) 0 nothing (λ g l. getD-replicate mostGates g 0 0 (omega arith)) refl))
 
 -- the code's ways out
 module _ (x : ℕ) (gs : List ℕ) (m : ℕ) (ns : List ℕ) (n d k f : ℕ) where

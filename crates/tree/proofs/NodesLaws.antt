@@ -11,7 +11,7 @@ use native.Mathlib.Omega.{arith}
 use Rattle.selector.specs.Flat.{Stands, Stood}
 use Rattle.selector.specs.Gates.{constantsOf, degreeAt}
 use Rattle.selector.specs.GrowthLaws.{In}
-use Rattle.selector.specs.Nodes.{gateAt, laid, leftAt, put, rightAt}
+use Rattle.selector.specs.Nodes.{gateAt, laid, leftAt, mostLevels, mostNodes, nodeSlots, put, rightAt}
 use Rattle.selector.specs.RecordLaws.{degree-small}
 use Rattle.selector.specs.RunLaws.{whole}
 use Rattle.selector.specs.Search.{constantsOver, degreeOver, factorOf, treeD, treeK}
@@ -26,40 +26,40 @@ use Rattle.tree.specs.declared.nodes.Stats.{Stats}
 pub record Sides (m : ℕ) (old : List ℕ) (i f next : ℕ) : Type 0 where
   pub l : Tree
   pub r : Tree
-  pub holds-l : Holds old 255 (leftAt old i) l
-  pub holds-r : Holds old 255 (rightAt old i) r
+  pub holds-l : Holds old mostNodes (leftAt old i) l
+  pub holds-r : Holds old mostNodes (rightAt old i) r
   pub listed-l : (g : ℕ) → In g l → g < m
   pub listed-r : (g : ℕ) → In g r → g < m
-  pub room : next + 1 + size l + size r ≤ 255
+  pub room : next + 1 + size l + size r ≤ mostNodes
   pub deep-l : suc (depth l) < f
   pub deep-r : suc (depth r) < f
 
 module _ (m : ℕ) (old : List ℕ) (i f next : ℕ) where
-  here-by : (t : Tree) → Holds old 255 i t → i < 255
+  here-by : (t : Tree) → Holds old mostNodes i t → i < mostNodes
   here-by (leaf g) h = h .0
   here-by (fork l r) h = h .0
 
-  pub room-here : Room m old i f next → i < 255
+  pub room-here : Room m old i f next → i < mostNodes
   room-here w = here-by (w .tree) (w .holds)
 
   size-some : (t : Tree) → 0 < size t
   size-some (leaf g) = omega arith
   size-some (fork l r) = omega arith
 
-  pub room-next : Room m old i f next → next < 255
+  pub room-next : Room m old i f next → next < mostNodes
   room-next w = omega (arith, size-some (w .tree), w .room)
 
   pub room-level : Room m old i f next → 0 < f
   room-level w = omega (arith, w .deep)
 
-  gate-by : (t : Tree) → Holds old 255 i t → ((g : ℕ) → In g t → g < m) → leftAt old i ≡ 0 → gateAt old i < m
+  gate-by : (t : Tree) → Holds old mostNodes i t → ((g : ℕ) → In g t → g < m) → leftAt old i ≡ 0 → gateAt old i < m
   gate-by (leaf g) h k e = k (gateAt old i) (h .2)
   gate-by (fork l r) h k e = absurd (h .1 e)
 
   pub room-gate : Room m old i f next → leftAt old i ≡ 0 → gateAt old i < m
   room-gate w e = gate-by (w .tree) (w .holds) (w .listed) e
 
-  sides-by : (t : Tree) → Holds old 255 i t → ((g : ℕ) → In g t → g < m) → next + size t ≤ 255 → depth t < f → (leftAt old i ≡ 0 → ⊥) → Sides m old i f next
+  sides-by : (t : Tree) → Holds old mostNodes i t → ((g : ℕ) → In g t → g < m) → next + size t ≤ mostNodes → depth t < f → (leftAt old i ≡ 0 → ⊥) → Sides m old i f next
   sides-by (leaf g) h k s d e = absurd (e (h .1))
   sides-by (fork a b) h k s d e =
       record {
@@ -84,7 +84,7 @@ module _ (m : ℕ) (old : List ℕ) (i f next : ℕ) where
   room-right s after e = record { tree = s .r; holds = s .holds-r; listed = s .listed-r; room = omega (arith, s .room); deep = omega (arith, s .deep-r) }
 
 module _ (x : ℕ) (gs old : List ℕ) (i d : ℕ) (s : Stats) (new : List ℕ) where
-  pub done-leaf : (t : Tree) → Holds old 255 i t → leftAt old i ≡ 0
+  pub done-leaf : (t : Tree) → Holds old mostNodes i t → leftAt old i ≡ 0
       → Done x gs d t s new (put new (s .next) 0 0 (gateAt old i))
       (record { next = s .next + 1; degree = max (s .degree) (degreeAt gs (gateAt old i) d); constants = max (s .constants) (constantsOf x gs (gateAt old i) + d) })
   unfolding laid degreeOver constantsOver
@@ -100,10 +100,10 @@ module _ (x : ℕ) (gs old : List ℕ) (i d : ℕ) (s : Stats) (new : List ℕ) 
       let b : max (max (s .constants) (constantsOver x gs (d + 1) l)) (constantsOver x gs (d + 1) r) ≡ max (s .constants) (max (constantsOver x gs (d + 1) l) (constantsOver x gs (d + 1) r)) = omega arith in
       rw (n, a, b)
 
-  pub done-fork : (f : ℕ) (t : Tree) → Holds old 255 i t → depth t < f → (leftAt old i ≡ 0 → ⊥) → (o₁ o₂ : List ℕ) (s₁ s₂ : Stats)
-      → ((l : Tree) → Holds old 255 (leftAt old i) l → depth l < f - 1
+  pub done-fork : (f : ℕ) (t : Tree) → Holds old mostNodes i t → depth t < f → (leftAt old i ≡ 0 → ⊥) → (o₁ o₂ : List ℕ) (s₁ s₂ : Stats)
+      → ((l : Tree) → Holds old mostNodes (leftAt old i) l → depth l < f - 1
       → Done x gs (d + 1) l (record { next = s .next + 1; degree = s .degree; constants = s .constants }) new o₁ s₁)
-      → ((r : Tree) → Holds old 255 (rightAt old i) r → depth r < f - 1
+      → ((r : Tree) → Holds old mostNodes (rightAt old i) r → depth r < f - 1
       → Done x gs (d + 1) r s₁ (put o₁ (s .next) (s .next + 1) (s₁ .next) 0) o₂ s₂)
       → Done x gs d t s new o₂ s₂
   unfolding laid
@@ -133,24 +133,24 @@ pub record Found (m : ℕ) (q : Option Tree) (ns : List ℕ) (n : ℕ) : Type 0 
   pub tree : Tree
   pub is : q ≡ some tree
   pub stood : Stood m tree ns n
-  pub whole : Holds ns 255 0 tree
-  pub shallow : depth tree < 33
+  pub whole : Holds ns mostNodes 0 tree
+  pub shallow : depth tree < mostLevels + 1
 
 pub found : (m : ℕ) (q : Option Tree) (ns : List ℕ) (n : ℕ) → Stands m q ns n → (n ≡ 0 → ⊥) → Found m q ns n
 found m none ns n h z = absurd (z h)
-found m (some t) ns n h z = record { tree = t; is = refl; stood = h; whole = holds-more ns n 255 0 t (h .small) (h .holds); shallow = omega (arith, h .deep) }
+found m (some t) ns n h z = record { tree = t; is = refl; stood = h; whole = holds-more ns n mostNodes 0 t (h .small) (h .holds); shallow = omega (arith, h .deep) }
 
 pub not-found : (m : ℕ) (q : Option Tree) (ns : List ℕ) (n : ℕ) → Stands m q ns n → n ≡ 0 → q ≡ none
 not-found m none ns n h z = refl
 not-found m (some t) ns n h z = absurd (omega (arith, h .some))
 
-pub found-room : (m : ℕ) (q : Option Tree) (ns : List ℕ) (n : ℕ) → Found m q ns n → Room m ns 0 33 0
+pub found-room : (m : ℕ) (q : Option Tree) (ns : List ℕ) (n : ℕ) → Found m q ns n → Room m ns 0 (mostLevels + 1) 0
 found-room m q ns n w =
     let s = w .stood in
     record { tree = w .tree; holds = w .whole; listed = s .listed; room = omega (arith, s .sized, s .small); deep = w .shallow }
 
 -- a tree that was found and laid out over zeros
-module _ (x : ℕ) (gs : List ℕ) (m : ℕ) (q : Option Tree) (ns : List ℕ) (n : ℕ) (w : Found m q ns n) (out : List ℕ) (r : Stats) (done : Done x gs 0 (w .tree) (record { next = 0; degree = 0; constants = 0 }) (replicate 765 0) out r) where
+module _ (x : ℕ) (gs : List ℕ) (m : ℕ) (q : Option Tree) (ns : List ℕ) (n : ℕ) (w : Found m q ns n) (out : List ℕ) (r : Stats) (done : Done x gs 0 (w .tree) (record { next = 0; degree = 0; constants = 0 }) (replicate nodeSlots 0) out r) where
   laid-degree : r .degree ≡ treeD gs (w .tree)
   laid-degree = ap (λ (z : Stats). z .degree) (done .sums) ∙ omega arith
 

@@ -18,7 +18,7 @@ use native.Mathlib.Omega.{arith}
 use Rattle.base.specs.Pick.{both-true, pick}
 use Rattle.selector.specs.MadeUp.{allListed}
 use Rattle.selector.specs.NodeLaws.{at-fork, at-leaf}
-use Rattle.selector.specs.Nodes.{bothSides, gateAt, leftAt, rightAt, treeAt}
+use Rattle.selector.specs.Nodes.{bothSides, gateAt, leftAt, mostLevels, rightAt, treeAt}
 use Rattle.selector.specs.Paths.{bitsOf, pathTo, turned}
 use Rattle.base.specs.Limits.{mostGates}
 use Rattle.selector.specs.Tree.{Tree, fork, leaf}
@@ -27,7 +27,7 @@ use Rattle.tree.specs.Placements.{PathWords, pathWords, placed, spelled}
 use Rattle.tree.specs.declared.paths.Placement.{Placement}
 use borrow.Fn.PlainCycle.{is}
 
-pub pow-room : (f : ℕ) → f ≤ 32 → 2 ^ f ≤ 4294967296
+pub pow-room : (f : ℕ) → f ≤ mostLevels → 2 ^ f ≤ 2 ^ mostLevels
 pow-room f h = pow-le-pow-right {n = 2} (omega arith) h
 
 pub pow-some : (f : ℕ) → 0 < 2 ^ f

@@ -14,10 +14,10 @@ use Rattle.base.specs.Fills.{Filled}
 use Rattle.base.specs.Pick.{pick}
 use Rattle.base.specs.Tables.{table, table-at, table-length}
 use Rattle.selector.specs.Gates.{constantsOf, gateWords}
-use Rattle.selector.specs.MadeUp.{mostLevels, wanted}
+use Rattle.selector.specs.MadeUp.{wanted}
 use Rattle.selector.specs.MadeUpLaws.{wanted-few}
 use Rattle.parameters.specs.Lookup.{flagOf}
-use Rattle.selector.specs.Nodes.{treeAt}
+use Rattle.selector.specs.Nodes.{mostLevels, treeAt}
 use Rattle.selector.specs.Paths.{bitsOf, orEmpty, pathOf, pathTo}
 use Rattle.base.specs.Limits.{mostGates}
 use Rattle.selector.specs.Tree.{Tree}

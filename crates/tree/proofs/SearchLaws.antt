@@ -15,14 +15,15 @@ use mathlib.Core.Path.{_∙_, _≡_, ap, refl, sym}
 use native.Mathlib.Decide.{decLe}
 use native.Mathlib.Numerals.{add-one}
 use native.Mathlib.Omega.{arith}
+use Rattle.base.specs.Limits.{mostGates}
 use Rattle.base.specs.Exponent.{exponent}
 use Rattle.base.specs.Pick.{pick}
-use Rattle.selector.specs.Flat.{Fine, Placed, Stands, Stood, growFlat, growFrom, levels, offerNode, placed, splitFlat}
+use Rattle.selector.specs.Flat.{Fine, Placed, Stands, Stood, growFlat, growFrom, offerNode, placed, splitFlat}
 use Rattle.selector.specs.FlatLaws.{Spot, fine-split, length-split, spot}
 use Rattle.selector.specs.Inner.{Distinct, Listed}
-use Rattle.selector.specs.Gates.{constantsOf, degreeAt, degreeOf, kindOf, placedGates, sorted, topConstants, topDegree}
+use Rattle.selector.specs.Gates.{constantsOf, degreeAt, degreeOf, gateWords, kindOf, placedGates, sorted, topConstants, topDegree}
 use Rattle.selector.specs.NodeLaws.{length-put, put-gate, put-left, put-right}
-use Rattle.selector.specs.Nodes.{gateAt, leftAt, put, rightAt}
+use Rattle.selector.specs.Nodes.{gateAt, leftAt, mostLevels, nodeSize, nodeSlots, put, rightAt}
 use Rattle.selector.specs.RunLaws.{flat-grows}
 use Rattle.selector.specs.Search.{extraLevels, factorOf, firstBound, firstTarget, mayStand, orTree, planTree, searchTree, targets, treeWithin}
 use Rattle.selector.specs.SearchLaws.{nothing-deeper}
@@ -83,17 +84,17 @@ listed-at m o b i h k j =
 -- what holds at the test of the loop that offers the gates after the first
 pub record Growing (fit : ℕ → ℕ → Bool) (gs : List ℕ) (m base : ℕ) (o ns₀ ns : List ℕ) (n i : ℕ) : Type 0 where
   pub some : base < i
-  pub upto : i ≤ 128
+  pub upto : i ≤ mostGates
   pub twice : n + 1 + base * 2 ≡ i * 2
-  pub long : length ns ≡ 765
-  pub ready : i < 128 → Fine gs ns n 0 (getD o i 0)
+  pub long : length ns ≡ nodeSlots
+  pub ready : i < mostGates → Fine gs ns n 0 (getD o i 0)
   pub same : growFrom fit (drop (base + 1) o) ns₀ 1 ≡ growFrom fit (drop i o) ns n
 
 module _ (fit : ℕ → ℕ → Bool) (gs : List ℕ) where
   run-step : (g : ℕ) (l ns : List ℕ) (n : ℕ) → growFrom fit (g ∷ l) ns n
-      ≡ pick (eqb (offerNode levels fit g 0 0 ns n .count) n)
+      ≡ pick (eqb (offerNode mostLevels fit g 0 0 ns n .count) n)
       (placed ns 0)
-      (growFrom fit l (offerNode levels fit g 0 0 ns n .nodes) (offerNode levels fit g 0 0 ns n .count))
+      (growFrom fit l (offerNode mostLevels fit g 0 0 ns n .nodes) (offerNode mostLevels fit g 0 0 ns n .count))
   unfolding growFrom
   run-step g l ns n = refl
 
@@ -101,27 +102,27 @@ module _ (fit : ℕ → ℕ → Bool) (gs : List ℕ) where
   unfolding growFrom
   run-end ns n = refl
 
-  module _ (m base : ℕ) (all : m * 3 ≤ length gs) (o : List ℕ) (wide : length o ≡ 128) (listed : Listed m (drop base o)) (ns₀ : List ℕ) where
-    pub grow-end : (ns : List ℕ) (n i : ℕ) → Growing fit gs m base o ns₀ ns n i → 128 ≤ i → growFrom fit (drop (base + 1) o) ns₀ 1 ≡ placed ns n
+  module _ (m base : ℕ) (all : m * gateWords ≤ length gs) (o : List ℕ) (wide : length o ≡ mostGates) (listed : Listed m (drop base o)) (ns₀ : List ℕ) where
+    pub grow-end : (ns : List ℕ) (n i : ℕ) → Growing fit gs m base o ns₀ ns n i → mostGates ≤ i → growFrom fit (drop (base + 1) o) ns₀ 1 ≡ placed ns n
     grow-end ns n i w h = w .same ∙ rw (drop-of-length-le o {i = i} (omega arith)) (run-end ns n)
 
-    front : (i : ℕ) → i < 128 → drop i o ≡ getD o i 0 ∷ drop (i + 1) o
+    front : (i : ℕ) → i < mostGates → drop i o ≡ getD o i 0 ∷ drop (i + 1) o
     front i h = rw add-one (drop-cons o i 0 (omega arith))
 
-    pub grow-stop : (ns : List ℕ) (n i : ℕ) → Growing fit gs m base o ns₀ ns n i → i < 128
-        → offerNode levels fit (getD o i 0) 0 0 ns n .count ≡ n
+    pub grow-stop : (ns : List ℕ) (n i : ℕ) → Growing fit gs m base o ns₀ ns n i → i < mostGates
+        → offerNode mostLevels fit (getD o i 0) 0 0 ns n .count ≡ n
         → growFrom fit (drop (base + 1) o) ns₀ 1 ≡ placed ns 0
     grow-stop ns n i w h e =
         w .same ∙ ap (λ (l : List ℕ). growFrom fit l ns n) (front i h) ∙ run-step (getD o i 0) (drop (i + 1) o) ns n ∙ simp (eq-eqb _ _ e)
 
-    grow-by : (ns : List ℕ) (n i : ℕ) → Growing fit gs m base o ns₀ ns n i → i < 128 → (p : Placed)
-        → p ≡ offerNode levels fit (getD o i 0) 0 0 ns n
+    grow-by : (ns : List ℕ) (n i : ℕ) → Growing fit gs m base o ns₀ ns n i → i < mostGates → (p : Placed)
+        → p ≡ offerNode mostLevels fit (getD o i 0) 0 0 ns n
         → (p .count ≡ n → ⊥) → Spot ns n (getD o i 0) p → Growing fit gs m base o ns₀ (p .nodes) (p .count) (i + 1)
     grow-by ns n i w h p e more (inl y) = absurd (more (ap (λ (q : Placed). q .count) y))
     grow-by ns n i w h p e more (inr (j, inside, y)) =
         let g = getD o i 0 in
         let fine = w .ready h in
-        let room : n * 3 + 5 < length ns = omega (arith, w .long, w .twice) in
+        let room : (n + 2) * nodeSize ≤ length ns = omega (arith, w .long, w .twice) in
         let count : p .count ≡ n + 2 = ap (λ (q : Placed). q .count) y in
         let nodes : p .nodes ≡ splitFlat ns n j g = ap (λ (q : Placed). q .nodes) y in
         record {
@@ -134,16 +135,16 @@ module _ (fit : ℕ → ℕ → Bool) (gs : List ℕ) where
               ∙ rw (← e) (simp (ne-eqb _ _ more));
         }
 
-    pub grow-next : (ns : List ℕ) (n i : ℕ) → Growing fit gs m base o ns₀ ns n i → i < 128
-        → (offerNode levels fit (getD o i 0) 0 0 ns n .count ≡ n → ⊥)
-        → Growing fit gs m base o ns₀ (offerNode levels fit (getD o i 0) 0 0 ns n .nodes) (offerNode levels fit (getD o i 0) 0 0 ns n .count) (i + 1)
+    pub grow-next : (ns : List ℕ) (n i : ℕ) → Growing fit gs m base o ns₀ ns n i → i < mostGates
+        → (offerNode mostLevels fit (getD o i 0) 0 0 ns n .count ≡ n → ⊥)
+        → Growing fit gs m base o ns₀ (offerNode mostLevels fit (getD o i 0) 0 0 ns n .nodes) (offerNode mostLevels fit (getD o i 0) 0 0 ns n .count) (i + 1)
     grow-next ns n i w h more =
-        grow-by ns n i w h (offerNode levels fit (getD o i 0) 0 0 ns n) refl more (spot fit (getD o i 0) gs ns n levels 0 0 (w .ready h))
+        grow-by ns n i w h (offerNode mostLevels fit (getD o i 0) 0 0 ns n) refl more (spot fit (getD o i 0) gs ns n mostLevels 0 0 (w .ready h))
 
-    pub grow-begin : (ns : List ℕ) → base < 128 → length ns ≡ 765 → ns₀ ≡ put ns 0 0 0 (getD o base 0) → Growing fit gs m base o ns₀ ns₀ 1 (base + 1)
+    pub grow-begin : (ns : List ℕ) → base < mostGates → length ns ≡ nodeSlots → ns₀ ≡ put ns 0 0 0 (getD o base 0) → Growing fit gs m base o ns₀ ns₀ 1 (base + 1)
     grow-begin ns h l e =
         let g = getD o base 0 in
-        let long : length ns₀ ≡ 765 = ap length e ∙ length-put ns 0 0 0 g ∙ l in
+        let long : length ns₀ ≡ nodeSlots = ap length e ∙ length-put ns 0 0 0 g ∙ l in
         let left : leftAt ns₀ 0 ≡ 0 = ap (λ (z : List ℕ). leftAt z 0) e ∙ put-left ns 0 0 0 g (omega arith) in
         let right : rightAt ns₀ 0 ≡ 0 = ap (λ (z : List ℕ). rightAt z 0) e ∙ put-right ns 0 0 0 g (omega arith) in
         let gate : gateAt ns₀ 0 ≡ g = ap (λ (z : List ℕ). gateAt z 0) e ∙ put-gate ns 0 0 0 g (omega arith) in
@@ -165,22 +166,22 @@ module _ (fit : ℕ → ℕ → Bool) (gs : List ℕ) where
           same = refl;
         }
 
-    pub grow-fits : (ns : List ℕ) → base < 128 → ns₀ ≡ put ns 0 0 0 (getD o base 0) → fit (getD o base 0) 0 ≡ true
+    pub grow-fits : (ns : List ℕ) → base < mostGates → ns₀ ≡ put ns 0 0 0 (getD o base 0) → fit (getD o base 0) 0 ≡ true
         → growFlat fit (drop base o) ns ≡ growFrom fit (drop (base + 1) o) ns₀ 1
     unfolding growFlat
     grow-fits ns h q e = rw (front base h, e, q)
 
-    pub grow-not : (ns : List ℕ) → base < 128 → fit (getD o base 0) 0 ≡ false
+    pub grow-not : (ns : List ℕ) → base < mostGates → fit (getD o base 0) 0 ≡ false
         → growFlat fit (drop base o) ns ≡ placed ns 0
     unfolding growFlat
     grow-not ns h e = rw (front base h, e)
 
-    pub grow-none : (ns : List ℕ) → 128 ≤ base → growFlat fit (drop base o) ns ≡ placed ns 0
+    pub grow-none : (ns : List ℕ) → mostGates ≤ base → growFlat fit (drop base o) ns ≡ placed ns 0
     unfolding growFlat
     grow-none ns h = rw (drop-of-length-le o {i = base} (omega arith))
 
 -- what `place_all` leaves, by the flat run that it makes
-module _ (x t c : ℕ) (gs : List ℕ) (m base : ℕ) (o ns : List ℕ) (all : m * 3 ≤ length gs) (deep : c ≤ levels) (wide : length o ≡ 128) (long : length ns ≡ 765)
+module _ (x t c : ℕ) (gs : List ℕ) (m base : ℕ) (o ns : List ℕ) (all : m * gateWords ≤ length gs) (deep : c ≤ mostLevels) (wide : length o ≡ mostGates) (long : length ns ≡ nodeSlots)
     (listed : Listed m (drop base o)) (distinct : Distinct (drop base o)) where
   pub stands : (ms : List ℕ) (n : ℕ) → growFlat (mayStand x gs t c) (drop base o) ns ≡ placed ms n → Stands m (grown (mayStand x gs t c) (drop base o)) ms n
   stands ms n e =
@@ -268,11 +269,11 @@ module _ (gs : List ℕ) (m x : ℕ) where
     pub order-distinct : Distinct (drop b o)
     order-distinct = rw e (distinct-sorted x gs (placedGates gs m) (distinct-placed x gs m 0))
 
-    pub bounds-are : (t l c : ℕ) → length o ≡ 128 → l ≡ exponent (128 - b) → c ≡ topConstants x gs (placedGates gs m)
+    pub bounds-are : (t l c : ℕ) → length o ≡ mostGates → l ≡ exponent (mostGates - b) → c ≡ topConstants x gs (placedGates gs m)
         → firstBound (λ (k : ℕ). grown (mayStand x gs t k) (drop b o)) (l + (extraLevels + 1)) c ≡ within t
     unfolding treeWithin
     bounds-are t l c h p q =
-        let n : 128 - b ≡ length inOrder = sym (rw h at (length-drop b o)) ∙ ap length e in
+        let n : mostGates - b ≡ length inOrder = sym (rw h at (length-drop b o)) ∙ ap length e in
         rw (e, p, q, n)
 
   pub plan-one : m ≡ 1 → planTree x gs m ≡ some (leaf 0)
@@ -284,7 +285,7 @@ module _ (gs : List ℕ) (m x : ℕ) where
   plan-more e = simp (ne-eqb _ _ e)
 
 -- a lone leaf stands in one node
-pub lone : (m : ℕ) (ns : List ℕ) → 0 < m → length ns ≡ 765 → Stood m (leaf 0) (put ns 0 0 0 0) 1
+pub lone : (m : ℕ) (ns : List ℕ) → 0 < m → length ns ≡ nodeSlots → Stood m (leaf 0) (put ns 0 0 0 0) 1
 lone m ns h l =
     record {
       some = omega arith;

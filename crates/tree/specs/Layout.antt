@@ -5,7 +5,7 @@ use Prim.Native.Nat.{_+_, _<_, _≤_, max, ℕ}
 use mathlib.Core.List.{List}
 use mathlib.Core.Path.{_≡_}
 use Rattle.selector.specs.GrowthLaws.{In}
-use Rattle.selector.specs.Nodes.{laid}
+use Rattle.selector.specs.Nodes.{laid, mostNodes}
 use Rattle.selector.specs.Search.{constantsOver, degreeOver}
 use Rattle.selector.specs.Inner.{depth, Holds}
 use Rattle.selector.specs.Tree.{Tree, size}
@@ -23,9 +23,9 @@ walked x gs d t s =
 -- a tree of listed gates stands at node i, less than f deep, and there is room for it from node `next` on
 pub record Room (m : ℕ) (old : List ℕ) (i f next : ℕ) : Type 0 where
   pub tree : Tree
-  pub holds : Holds old 255 i tree
+  pub holds : Holds old mostNodes i tree
   pub listed : (g : ℕ) → In g tree → g < m
-  pub room : next + size tree ≤ 255
+  pub room : next + size tree ≤ mostNodes
   pub deep : depth tree < f
 
 -- the tree t at depth d is laid out, and its stats are taken

@@ -10,9 +10,9 @@ use mathlib.Core.Option.{Option, none, some}
 use Rattle.base.specs.Firsts.{orNumber}
 use Rattle.base.specs.Pick.{pick}
 use Rattle.base.specs.Tables.{table}
-use Rattle.selector.specs.Gates.{constantsOf, gateWords}
-use Rattle.selector.specs.MadeUp.{mostLevels, nodesFit, wanted}
-use Rattle.selector.specs.Nodes.{treeAt}
+use Rattle.selector.specs.Gates.{constantsOf, gateSlots, gateWords}
+use Rattle.selector.specs.MadeUp.{nodesFit, wanted}
+use Rattle.selector.specs.Nodes.{mostLevels, nodeSlots, treeAt}
 use Rattle.selector.specs.Paths.{bitsOf, pathOf}
 use Rattle.base.specs.Limits.{mostGates}
 use Rattle.selector.specs.Refusals.{extraOf, gateCount, gatesNumber, wordsFit}
@@ -41,9 +41,9 @@ zeroPlan =
       specialised = 0;
       variables = 0;
       lookup = NoLookup;
-      gates = replicate 384 0;
+      gates = replicate gateSlots 0;
       «gate_count» = 0;
-      nodes = replicate 765 0;
+      nodes = replicate nodeSlots 0;
       «node_count» = 0;
       degree = 0;
       constants = 0;
@@ -69,7 +69,7 @@ planNumber ps gs = orNumber (wordsNumber ps gs) (treeNumber (treeFor ps gs))
 
 -- gate words in a plan's array; unused words are 0
 abbrev pub gateArray : List ℕ → List ℕ
-gateArray gs = gs ++ drop (length gs) (replicate 384 0)
+gateArray gs = gs ++ drop (length gs) (replicate gateSlots 0)
 
 -- the plan of parameter words, gate words and a shape
 abbrev pub planWith : Parameters → List ℕ → Shape → Plan
@@ -125,7 +125,7 @@ toldOf p = record { degree = p .degree; constants = p .constants; factor = p .fa
 
 -- "19 is given for a made-up plan: parameters or gates that 1 to 7 turn down, a child not after its parent or past the nodes, a leaf below depth 31, leaves
 -- other than each placed gate just once, or D, K or F not the tree's." Over a plan's parts; gate words that are not there are a fault too, which a plan's own
--- array of 384 never has.
+-- array of `gateSlots` never has.
 unfoldable pub partsFault : Parameters → List ℕ → ℕ → List ℕ → ℕ → Told → ℕ
 partsFault ps gs n nodes m w =
     pick (eqb (parametersNumber ps) 0)

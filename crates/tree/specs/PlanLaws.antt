@@ -14,7 +14,7 @@ use mathlib.Core.Path.{_∙_, _≡_, refl, sym}
 use native.Mathlib.Omega.{arith}
 use Rattle.base.specs.Firsts.{first-found, first-none, first-zero}
 use Rattle.base.specs.Pick.{pick, pick-no, pick-zero}
-use Rattle.selector.specs.Gates.{gateWords, placedGates, topConstants}
+use Rattle.selector.specs.Gates.{gateSlots, gateWords, placedGates, topConstants}
 use Rattle.selector.specs.MadeUp.{nodesFit}
 use Rattle.selector.specs.MadeUpLaws.{Sturdy, own-passes, sturdy}
 use Rattle.selector.specs.NodeLaws.{size-some}
@@ -163,7 +163,7 @@ module _ (ps : Parameters) (gs : List ℕ) where
 
   -- a plan's gates are those given
   given-words : Accepted ps gs → (s : Shape) → gatesGiven (planWith ps gs s) ≡ gs
-  given-words w s = rw (w .words) (take-append-seam gs (drop (length gs) (replicate 384 0)))
+  given-words w s = rw (w .words) (take-append-seam gs (drop (length gs) (replicate gateSlots 0)))
 
   given-parameters : Accepted ps gs → (s : Shape) → parametersOf (planWith ps gs s) ≡ ps
   given-parameters w s =
@@ -200,7 +200,7 @@ module _ (ps : Parameters) (gs : List ℕ) where
         eq-eqb (parametersNumber ps) 0 (w .parameters),
         le-leb 1 (gateCount gs) (w .some-gates),
         le-leb (gateCount gs) mostGates (w .few-gates),
-        le-leb (gateCount gs * gateWords) (length (gateArray gs)) (omega (arith, w .words, length-append gs (drop (length gs) (replicate 384 0)))),
+        le-leb (gateCount gs * gateWords) (length (gateArray gs)) (omega (arith, w .words, length-append gs (drop (length gs) (replicate gateSlots 0)))),
         eq-eqb (gatesNumber (ps .mode) (ps .allowed) gs (gateCount gs)) 0 (w .gates),
         own-passes gs (gateCount gs) (extraOf (ps .mode)) (w .sound) t e,
       )

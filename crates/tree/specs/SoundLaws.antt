@@ -46,7 +46,7 @@ pub record Sound (q : Plan) : Type 0 where
   pub variables : q .variables ≤ 1048576
   pub width : widthOf (q .lookup) ≤ 16
   pub some-gates : 1 ≤ q .«gate_count»
-  pub few-gates : q .«gate_count» ≤ 128
+  pub few-gates : q .«gate_count» ≤ mostGates
   pub height : q .constants ≤ 47
   pub digits : (g : ℕ) → Each (λ (d : ℕ). d < 2) (planPath q g)
   pub fits : (g : ℕ) → g < q .«gate_count» → length (planPath q g) + planOwn q g ≤ q .constants

@@ -2,22 +2,25 @@
 ghost use mathlib.Core.Path.{_≡_};
 ghost use Prim.Native.Nat.{ℕ, _*_, _≤_};
 ghost use lib.ListN.{length};
+ghost use Rattle.base.specs.Limits.{mostGates};
 ghost use Rattle.base.specs.Fills.{Filled};
 ghost use Rattle.selector.specs.Gates.{gateWords, constantsOf};
 ghost use Rattle.selector.specs.MadeUp.{wanted};
 ghost use Rattle.tree.specs.Plan.{noGateRows};
 use crate::gates::constants_of;
 use crate::made_up::wanted_of;
+use selector::MOST_GATES;
+use selector::Marks;
 
 // A refusal number, or 0, and how many gates are listed; of each its path, as `Path` has it, 1 where it has a selector and 0 where it has none, and its own number
 // of constants. All of it is 0 for a made-up plan, and so are the words of gates that are not listed.
 pub struct GateRows {
     pub number: u64,
     pub many: u64,
-    pub bits: [u64; 128],
-    pub steps: [u64; 128],
-    pub selected: [u64; 128],
-    pub own: [u64; 128],
+    pub bits: Marks,
+    pub steps: Marks,
+    pub selected: Marks,
+    pub own: Marks,
 }
 
 // The answer for a made-up plan.
@@ -27,10 +30,10 @@ pub(crate) fn no_gate_rows() -> GateRows
     GateRows {
         number: 19,
         many: 0,
-        bits: [0; 128],
-        steps: [0; 128],
-        selected: [0; 128],
-        own: [0; 128],
+        bits: [0; MOST_GATES],
+        steps: [0; MOST_GATES],
+        selected: [0; MOST_GATES],
+        own: [0; MOST_GATES],
     }
 }
 
@@ -39,10 +42,10 @@ pub(crate) fn list_gates(
     gates: &[u64],
     many: usize,
     extra: u64,
-    selected: &mut [u64; 128],
-    own: &mut [u64; 128],
+    selected: &mut Marks,
+    own: &mut Marks,
 )
-    requires { ⌜ (many * gateWords ≤ length (now gates)) × (many ≤ 128) × (length (now selected) ≡ 128) × (length (now own) ≡ 128) ⌝ }
+    requires { ⌜ (many * gateWords ≤ length (now gates)) × (many ≤ mostGates) × (length (now selected) ≡ mostGates) × (length (now own) ≡ mostGates) ⌝ }
     ensures { λ _. ⌜ Filled (wanted (now (gates .entry)) many) 0 many (now (selected .entry)) (now (selected .exit)) ⌝ }
     ensures { λ _. ⌜ Filled (constantsOf extra (now (gates .entry))) 0 many (now (own .entry)) (now (own .exit)) ⌝ }
 {

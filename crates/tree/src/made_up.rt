@@ -3,9 +3,10 @@ ghost use mathlib.Core.Path.{_≡_};
 ghost use mathlib.Core.Bool.{true};
 ghost use Prim.Native.Nat.{ℕ, _+_, _*_, _≤_, _<_};
 ghost use lib.ListN.{length, getD};
+ghost use Rattle.base.specs.Limits.{mostGates};
 ghost use Rattle.selector.specs.Gates.{gateWords};
 ghost use Rattle.selector.specs.Inner.{Sound};
-ghost use Rattle.selector.specs.Nodes.{treeAt};
+ghost use Rattle.selector.specs.Nodes.{treeAt, mostNodes};
 ghost use Rattle.selector.specs.MadeUp.{linkedAt, linkedFrom, wanted, asWanted, nodesFit, numbersAre};
 ghost use Rattle.selector.specs.Walk.{meet, Visited, Links};
 ghost use Rattle.tree.specs.Walks.{walk, Most};
@@ -14,11 +15,17 @@ use crate::gates::degree_at_depth;
 use crate::gates::factor_of;
 use crate::plan::Told;
 use selector::GATE_WORDS;
+use selector::MOST_GATES;
+use selector::MOST_LEVELS;
+use selector::MOST_NODES;
+use selector::Marks;
+use selector::NODE_WORDS;
+use selector::Nodes;
 
 // A leaf is met: a gate that is unlisted or met before ends the walk. `most` has the greatest degree at depth and the greatest constants plus depth so far.
 fn meet(
     gates: &[u64],
-    marks: &mut [u64; 128],
+    marks: &mut Marks,
     most: &mut [u64; 2],
     many: usize,
     gate: u64,
@@ -48,8 +55,8 @@ fn meet(
 // The tree at a node is walked, at most `levels` deep; whether nothing was wrong. A gate met twice ends the walk, so that it is linear in the gates however the nodes point at one another.
 fn visit<'a>(
     gates: &'a [u64],
-    nodes: &'a [u64; 765],
-    marks: &mut [u64; 128],
+    nodes: &'a Nodes,
+    marks: &mut Marks,
     most: &mut [u64; 2],
     many: usize,
     count: usize,
@@ -60,16 +67,24 @@ fn visit<'a>(
 ) -> bool
     requires { ⌜ Sound (now gates) many extra ⌝ }
     requires { ⌜ Links (now nodes) count ⌝ }
-    requires { ⌜ (at < count) × (count ≤ 255) × (level + levels ≤ 100) × (length (now most) ≡ 2) ⌝ }
+    requires { ⌜ (at < count) × (count ≤ mostNodes) × (level + levels ≤ 100) × (length (now most) ≡ 2) ⌝ }
     ensures { λ r. ⌜ Visited extra (now (gates .entry)) many (treeAt levels (now (nodes .entry)) at) level (walk (now (marks .entry)) (now (most .entry)) true) (walk (now (marks .exit)) (now (most .exit)) r) ⌝ }
     ensures { λ _. ⌜ Most (now (most .entry)) (now (most .exit)) ⌝ }
 {
     if levels == 0 {
         return false;
     }
-    let left = nodes[at * 3] as usize;
+    let left = nodes[at * NODE_WORDS] as usize;
     if left == 0 {
-        return meet(gates, marks, most, many, nodes[at * 3 + 2], level, extra);
+        return meet(
+            gates,
+            marks,
+            most,
+            many,
+            nodes[at * NODE_WORDS + 2],
+            level,
+            extra,
+        );
     }
     let fine = visit(
         gates,
@@ -84,7 +99,7 @@ fn visit<'a>(
         extra,
     );
     if fine {
-        let right = nodes[at * 3 + 1] as usize;
+        let right = nodes[at * NODE_WORDS + 1] as usize;
         return visit(
             gates,
             nodes,
@@ -102,12 +117,12 @@ fn visit<'a>(
 }
 
 // Whether a node is a leaf, without child words, or has both children behind it and within the nodes.
-fn linked_at(nodes: &[u64; 765], count: usize, at: usize) -> bool
-    requires { ⌜ (at < count) × (count ≤ 255) ⌝ }
+fn linked_at(nodes: &Nodes, count: usize, at: usize) -> bool
+    requires { ⌜ (at < count) × (count ≤ mostNodes) ⌝ }
     ensures { λ r. ⌜ r ≡ linkedAt (now (nodes .entry)) count at ⌝ }
 {
-    let left = nodes[at * 3] as usize;
-    let right = nodes[at * 3 + 1] as usize;
+    let left = nodes[at * NODE_WORDS] as usize;
+    let right = nodes[at * NODE_WORDS + 1] as usize;
     if left == 0 {
         return right == 0;
     }
@@ -121,8 +136,8 @@ fn linked_at(nodes: &[u64; 765], count: usize, at: usize) -> bool
     false
 }
 
-fn linked(nodes: &[u64; 765], count: usize) -> bool
-    requires { ⌜ count ≤ 255 ⌝ }
+fn linked(nodes: &Nodes, count: usize) -> bool
+    requires { ⌜ count ≤ mostNodes ⌝ }
     ensures { λ r. ⌜ r ≡ linkedFrom count (now (nodes .entry)) count 0 ⌝ }
 {
     let mut i: usize = 0;
@@ -150,8 +165,8 @@ pub(crate) fn wanted_of(gates: &[u64], many: usize, gate: usize) -> u64
     1
 }
 
-fn as_wanted<'a>(gates: &'a [u64], marks: &'a [u64; 128], many: usize) -> bool
-    requires { ⌜ (many * gateWords ≤ length (now gates)) × (many ≤ 128) ⌝ }
+fn as_wanted<'a>(gates: &'a [u64], marks: &'a Marks, many: usize) -> bool
+    requires { ⌜ (many * gateWords ≤ length (now gates)) × (many ≤ mostGates) ⌝ }
     ensures { λ r. ⌜ r ≡ asWanted many (now (gates .entry)) many (λ (g : ℕ). getD (now (marks .entry)) g 0) 0 ⌝ }
 {
     let mut g: usize = 0;
@@ -181,7 +196,7 @@ fn numbers_fit(degree: u64, constants: u64, told: Told) -> bool
 // Whether the nodes are a tree of the placed gates, and D, K and F are its own.
 pub(crate) fn nodes_fit<'a>(
     gates: &'a [u64],
-    nodes: &'a [u64; 765],
+    nodes: &'a Nodes,
     many: usize,
     count: usize,
     extra: u64,
@@ -193,11 +208,11 @@ pub(crate) fn nodes_fit<'a>(
     if count == 0 {
         return false;
     }
-    if 255 < count {
+    if MOST_NODES < count {
         return false;
     }
     if linked(nodes, count) {
-        let mut marks = [0; 128];
+        let mut marks = [0; MOST_GATES];
         let mut most = [0; 2];
         let fine = visit(
             gates,
@@ -208,7 +223,7 @@ pub(crate) fn nodes_fit<'a>(
             count,
             0,
             0,
-            32,
+            MOST_LEVELS,
             extra,
         );
         if fine {

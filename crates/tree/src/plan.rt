@@ -13,7 +13,13 @@ use crate::refusals::gates_number;
 use crate::refusals::words_fit;
 use parameters::lookup::LookupParameters;
 use parameters::parameters::Parameters;
+use selector::GATE_SLOTS;
 use selector::GATE_WORDS;
+use selector::GateSlots;
+use selector::MOST_GATES;
+use selector::MOST_LEVELS;
+use selector::NODE_SLOTS;
+use selector::Nodes;
 
 // Parameters, lookup mode, gates, and the tree in preorder, three words a node; D, K and F. Unused words are 0 in a plan that planning made.
 pub struct Plan {
@@ -23,9 +29,9 @@ pub struct Plan {
     pub specialised: u64,
     pub variables: u64,
     pub lookup: LookupParameters,
-    pub gates: [u64; 384],
+    pub gates: GateSlots,
     pub gate_count: u64,
-    pub nodes: [u64; 765],
+    pub nodes: Nodes,
     pub node_count: u64,
     pub degree: u64,
     pub constants: u64,
@@ -63,9 +69,6 @@ fn flag_of(share: bool) -> u64
     0
 }
 
-// A tree's node words, as a plan has them.
-pub type Nodes = [u64; 765];
-
 // 19 for the parts of a made-up plan, else 0. The arrays are lent, so that a caller who holds them hands over no copy of nine kilobytes.
 pub fn parts_fault<'a>(
     parameters: Parameters,
@@ -83,7 +86,7 @@ pub fn parts_fault<'a>(
     if gate_count < 1 {
         return 19;
     }
-    if 128 < gate_count {
+    if (MOST_GATES as u64) < gate_count {
         return 19;
     }
     let many = gate_count as usize;
@@ -114,9 +117,9 @@ impl Plan {
             specialised: 0,
             variables: 0,
             lookup: LookupParameters::NoLookup,
-            gates: [0; 384],
+            gates: [0; GATE_SLOTS],
             gate_count: 0,
-            nodes: [0; 765],
+            nodes: [0; NODE_SLOTS],
             node_count: 0,
             degree: 0,
             constants: 0,
@@ -191,7 +194,7 @@ impl Plan {
             };
         }
         let nodes = self.nodes;
-        let found = output_placement(&nodes, self.node_count as usize, 0, gate, 32);
+        let found = output_placement(&nodes, self.node_count as usize, 0, gate, MOST_LEVELS);
         Path {
             number: 0,
             bits: found.bits,
@@ -206,13 +209,23 @@ impl Plan {
         if self.fault() != 0 {
             return no_gate_rows();
         }
-        let mut bits = [0; 128];
-        let mut steps = [0; 128];
+        let mut bits = [0; MOST_GATES];
+        let mut steps = [0; MOST_GATES];
         let nodes = self.nodes;
         let count = self.node_count as usize;
-        all_placements(&nodes, count, 0, 0, 1, 0, 32, &mut bits, &mut steps);
-        let mut selected = [0; 128];
-        let mut own = [0; 128];
+        all_placements(
+            &nodes,
+            count,
+            0,
+            0,
+            1,
+            0,
+            MOST_LEVELS,
+            &mut bits,
+            &mut steps,
+        );
+        let mut selected = [0; MOST_GATES];
+        let mut own = [0; MOST_GATES];
         let gates = self.gates;
         let many = self.gate_count;
         let lookup = self.lookup;

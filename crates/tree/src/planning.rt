@@ -1,4 +1,5 @@
 // Planning.
+ghost use Rattle.selector.specs.Gates.{gateSlots};
 ghost use mathlib.Core.Path.{_≡_};
 ghost use Prim.Native.Nat.{_≤_};
 ghost use mathlib.Core.List.{_++_};
@@ -11,7 +12,9 @@ use crate::refusals::extra_of;
 use crate::refusals::gates_number;
 use crate::refusals::words_fit;
 use parameters::parameters::Parameters;
+use selector::GATE_SLOTS;
 use selector::GATE_WORDS;
+use selector::GateSlots;
 
 // A refusal number, or 0, and the plan; after a refusal a plan of zeros.
 pub struct Planned {
@@ -35,8 +38,8 @@ fn words_number(parameters: Parameters, gates: &[u64]) -> u64
 }
 
 // Gate words go to the front of a plan's array.
-fn copy_gates(gates: &[u64], kept: &mut [u64; 384])
-    requires { ⌜ (length (now gates) ≤ 384) × (length (now kept) ≡ 384) ⌝ }
+fn copy_gates(gates: &[u64], kept: &mut GateSlots)
+    requires { ⌜ (length (now gates) ≤ gateSlots) × (length (now kept) ≡ gateSlots) ⌝ }
     ensures { λ _. ⌜ now (kept .exit) ≡ now (gates .entry) ++ drop (length (now (gates .entry))) (now (kept .entry)) ⌝ }
 {
     let mut i: usize = 0;
@@ -69,7 +72,7 @@ pub fn plan(parameters: Parameters, gates: &[u64]) -> Planned
     if shape.count == 0 {
         return refused(8);
     }
-    let mut kept = [0; 384];
+    let mut kept = [0; GATE_SLOTS];
     copy_gates(gates, &mut kept);
     let nodes = shape.nodes;
     let plan = Plan {

@@ -6,6 +6,7 @@ ghost use Rattle.selector.specs.Gates.{gateWords, placedGates, topConstants};
 ghost use Rattle.selector.specs.Refusals.{wordsFit, recordNumber, recordsNumber, listsLookup, someKind, lookupNumber, kindsNumber, constantsNumber, extraOf, gatesNumber};
 use crate::gates::constants_of;
 use selector::GATE_WORDS;
+use selector::MOST_GATES;
 
 // Three words each for 1 to 128 gates; else the refusal is 3.
 pub(crate) fn words_fit(gates: &[u64]) -> bool
@@ -16,7 +17,7 @@ pub(crate) fn words_fit(gates: &[u64]) -> bool
         if many < 1 {
             return false;
         }
-        return many <= 128;
+        return many <= MOST_GATES;
     }
     false
 }

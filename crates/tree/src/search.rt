@@ -2,6 +2,8 @@
 ghost use mathlib.Core.Path.{_≡_};
 ghost use Prim.Native.Nat.{ℕ, _+_, _*_, _≤_, _<_};
 ghost use lib.ListN.{length, drop};
+ghost use Rattle.selector.specs.Nodes.{mostNodes, nodeSlots, mostLevels};
+ghost use Rattle.base.specs.Limits.{mostGates};
 ghost use Rattle.selector.specs.Inner.{Listed, Distinct, Sound};
 ghost use Rattle.selector.specs.Gates.{gateWords};
 ghost use Rattle.selector.specs.Tree.{grown};
@@ -13,6 +15,11 @@ use crate::gates::factor_of;
 use crate::nodes::put_node;
 use crate::order::arrange;
 use selector::GATE_WORDS;
+use selector::MOST_GATES;
+use selector::MOST_LEVELS;
+use selector::Marks;
+use selector::NODE_WORDS;
+use selector::Nodes;
 
 // "Targets: t, 2t, 4t, 8t".
 const TARGETS: u64 = 4;
@@ -51,11 +58,11 @@ fn may_stand(gates: &[u64], gate: u64, depth: u64, offer: Offer) -> bool
 }
 
 // The leaf at `at` becomes a fork of two new nodes: its gate left, the new gate right.
-fn split(nodes: &mut [u64; 765], count: usize, at: usize, gate: u64)
-    requires { ⌜ (count < 254) × (at < count) ⌝ }
+fn split(nodes: &mut Nodes, count: usize, at: usize, gate: u64)
+    requires { ⌜ (count + 2 ≤ mostNodes) × (at < count) ⌝ }
     ensures { λ _. ⌜ now (nodes .exit) ≡ splitFlat (now (nodes .entry)) count at gate ⌝ }
 {
-    let old = nodes[at * 3 + 2];
+    let old = nodes[at * NODE_WORDS + 2];
     put_node(nodes, count, 0, 0, old);
     let next = count + 1;
     put_node(nodes, next, 0, 0, gate);
@@ -65,7 +72,7 @@ fn split(nodes: &mut [u64; 765], count: usize, at: usize, gate: u64)
 // A gate is offered to a node: the number of nodes after it, the same where it is refused.
 fn try_add_gate(
     gates: &[u64],
-    nodes: &mut [u64; 765],
+    nodes: &mut Nodes,
     count: usize,
     at: usize,
     depth: u64,
@@ -80,8 +87,8 @@ fn try_add_gate(
     if levels == 0 {
         return count;
     }
-    if nodes[at * 3] == 0 {
-        if may_stand(gates, nodes[at * 3 + 2], depth + 1, offer) {
+    if nodes[at * NODE_WORDS] == 0 {
+        if may_stand(gates, nodes[at * NODE_WORDS + 2], depth + 1, offer) {
             if may_stand(gates, offer.gate, depth + 1, offer) {
                 split(nodes, count, at, offer.gate);
                 return count + 2;
@@ -95,7 +102,7 @@ fn try_add_gate(
 // And to the sides of a fork, which stand at `depth`.
 fn try_add_to_sides(
     gates: &[u64],
-    nodes: &mut [u64; 765],
+    nodes: &mut Nodes,
     count: usize,
     at: usize,
     depth: u64,
@@ -107,33 +114,33 @@ fn try_add_to_sides(
     ensures { λ r. ⌜ r ≡ offerFork levels (fitsOffer (now (gates .entry)) offer) (offer .gate) depth at (now (nodes .entry)) count .count ⌝ }
     ensures { λ r. ⌜ now (nodes .exit) ≡ offerFork levels (fitsOffer (now (gates .entry)) offer) (offer .gate) depth at (now (nodes .entry)) count .nodes ⌝ }
 {
-    let left = nodes[at * 3] as usize;
+    let left = nodes[at * NODE_WORDS] as usize;
     let taken = try_add_gate(gates, nodes, count, left, depth, levels, offer);
     if taken != count {
         return taken;
     }
-    let right = nodes[at * 3 + 1] as usize;
+    let right = nodes[at * NODE_WORDS + 1] as usize;
     try_add_gate(gates, nodes, count, right, depth, levels, offer)
 }
 
 // The tree of the gates order[base..], offered in order: how many nodes it has, or 0 where a gate is refused.
 fn place_all<'a>(
     gates: &'a [u64],
-    order: &'a [u64; 128],
-    nodes: &mut [u64; 765],
+    order: &'a Marks,
+    nodes: &mut Nodes,
     many: usize,
     base: usize,
     extra: u64,
     target: u64,
     bound: u64,
 ) -> usize
-    requires { ⌜ (many * gateWords ≤ length (now gates)) × (bound ≤ 32) × (length (now order) ≡ 128) × (length (now nodes) ≡ 765) ⌝ }
+    requires { ⌜ (many * gateWords ≤ length (now gates)) × (bound ≤ mostLevels) × (length (now order) ≡ mostGates) × (length (now nodes) ≡ nodeSlots) ⌝ }
     requires { ⌜ Listed many (drop base (now order)) ⌝ }
     requires { ⌜ Distinct (drop base (now order)) ⌝ }
     ensures { λ r. ⌜ Stands many (grown (mayStand extra (now (gates .entry)) target bound) (drop base (now (order .entry)))) (now (nodes .exit)) r ⌝ }
-    ensures { λ r. ⌜ length (now (nodes .exit)) ≡ 765 ⌝ }
+    ensures { λ r. ⌜ length (now (nodes .exit)) ≡ nodeSlots ⌝ }
 {
-    if 128 <= base {
+    if MOST_GATES <= base {
         return 0;
     }
     let gate = order[base];
@@ -147,14 +154,14 @@ fn place_all<'a>(
         put_node(nodes, 0, 0, 0, gate);
         let mut count: usize = 1;
         let mut i: usize = base + 1;
-        while i < 128 {
+        while i < MOST_GATES {
             let offer = Offer {
                 gate: order[i],
                 target: target,
                 bound: bound,
                 extra: extra,
             };
-            let taken = try_add_gate(gates, nodes, count, 0, 0, 32, offer);
+            let taken = try_add_gate(gates, nodes, count, 0, 0, MOST_LEVELS, offer);
             if taken == count {
                 return 0;
             }
@@ -169,8 +176,8 @@ fn place_all<'a>(
 // The first tree of the bounds from `bound` on, `left` of them.
 fn try_find_placement_for_degree<'a>(
     gates: &'a [u64],
-    order: &'a [u64; 128],
-    nodes: &mut [u64; 765],
+    order: &'a Marks,
+    nodes: &mut Nodes,
     many: usize,
     base: usize,
     extra: u64,
@@ -178,11 +185,11 @@ fn try_find_placement_for_degree<'a>(
     bound: u64,
     left: u64,
 ) -> usize
-    requires { ⌜ (many * gateWords ≤ length (now gates)) × (bound + left ≤ 33) × (length (now order) ≡ 128) × (length (now nodes) ≡ 765) ⌝ }
+    requires { ⌜ (many * gateWords ≤ length (now gates)) × (bound + left ≤ mostLevels + 1) × (length (now order) ≡ mostGates) × (length (now nodes) ≡ nodeSlots) ⌝ }
     requires { ⌜ Listed many (drop base (now order)) ⌝ }
     requires { ⌜ Distinct (drop base (now order)) ⌝ }
     ensures { λ r. ⌜ Stands many (firstBound (λ (b : ℕ). grown (mayStand extra (now (gates .entry)) target b) (drop base (now (order .entry)))) left bound) (now (nodes .exit)) r ⌝ }
-    ensures { λ r. ⌜ length (now (nodes .exit)) ≡ 765 ⌝ }
+    ensures { λ r. ⌜ length (now (nodes .exit)) ≡ nodeSlots ⌝ }
 {
     let mut b = bound;
     let mut k = left;
@@ -198,16 +205,16 @@ fn try_find_placement_for_degree<'a>(
 }
 
 // The search: the targets from the factor of M on, and for each the bounds G to G + L + 1.
-fn search(gates: &[u64], nodes: &mut [u64; 765], many: usize, extra: u64) -> usize
+fn search(gates: &[u64], nodes: &mut Nodes, many: usize, extra: u64) -> usize
     requires { ⌜ Sound (now gates) many extra ⌝ }
-    requires { ⌜ length (now nodes) ≡ 765 ⌝ }
+    requires { ⌜ length (now nodes) ≡ nodeSlots ⌝ }
     ensures { λ r. ⌜ Stands many (searchTree extra (now (gates .entry)) many) (now (nodes .exit)) r ⌝ }
-    ensures { λ r. ⌜ length (now (nodes .exit)) ≡ 765 ⌝ }
+    ensures { λ r. ⌜ length (now (nodes .exit)) ≡ nodeSlots ⌝ }
 {
-    let mut order = [0; 128];
+    let mut order = [0; MOST_GATES];
     let ranged = arrange(gates, many, extra, &mut order);
     let base = ranged.base;
-    let levels = base::power_above((128 - base) as u64);
+    let levels = base::power_above((MOST_GATES - base) as u64);
     let left = levels.exponent + (EXTRA_LEVELS + 1);
     let mut target = factor_of(ranged.degree);
     let mut k: u64 = TARGETS;
@@ -233,16 +240,11 @@ fn search(gates: &[u64], nodes: &mut [u64; 765], many: usize, extra: u64) -> usi
 }
 
 // The tree of a list of gates: a lone leaf for one gate, else what the search finds. The number of its nodes, or 0.
-pub(crate) fn compute_placement(
-    gates: &[u64],
-    nodes: &mut [u64; 765],
-    many: usize,
-    extra: u64,
-) -> usize
+pub(crate) fn compute_placement(gates: &[u64], nodes: &mut Nodes, many: usize, extra: u64) -> usize
     requires { ⌜ Sound (now gates) many extra ⌝ }
-    requires { ⌜ length (now nodes) ≡ 765 ⌝ }
+    requires { ⌜ length (now nodes) ≡ nodeSlots ⌝ }
     ensures { λ r. ⌜ Stands many (planTree extra (now (gates .entry)) many) (now (nodes .exit)) r ⌝ }
-    ensures { λ r. ⌜ length (now (nodes .exit)) ≡ 765 ⌝ }
+    ensures { λ r. ⌜ length (now (nodes .exit)) ≡ nodeSlots ⌝ }
 {
     if many == 1 {
         put_node(nodes, 0, 0, 0, 0);

@@ -5,6 +5,10 @@ ghost use lib.ListN.{length};
 use libc::STDOUT_FILENO;
 use parameters::parameters::Parameters;
 use replay::Replay;
+use selector::GATE_SLOTS;
+use selector::GateSlots;
+use selector::NODE_SLOTS;
+use selector::Nodes;
 use tree::plan::Plan;
 use tree::planning::Planned;
 
@@ -113,20 +117,20 @@ fn replay_plan(bytes: &[u8], start: Replay) -> Replay {
 }
 
 // The first words of an array.
-fn gate_words(words: [u64; 1024]) -> [u64; 384] {
-    let mut kept = [0; 384];
+fn gate_words(words: [u64; 1024]) -> GateSlots {
+    let mut kept = [0; GATE_SLOTS];
     let mut i: usize = 0;
-    while i < 384 {
+    while i < GATE_SLOTS {
         kept[i] = words[i];
         i += 1;
     }
     kept
 }
 
-fn node_words(words: [u64; 1024]) -> [u64; 765] {
-    let mut kept = [0; 765];
+fn node_words(words: [u64; 1024]) -> Nodes {
+    let mut kept = [0; NODE_SLOTS];
     let mut i: usize = 0;
-    while i < 765 {
+    while i < NODE_SLOTS {
         kept[i] = words[i];
         i += 1;
     }

@@ -2,14 +2,15 @@
 -- Assumes nothing.
 use borrow.Author.Needs.{needs}
 use Prim.Native.Nat.{_-_, _≤_}
+use Rattle.selector.specs.Gates.{gateSlots}
 use Rattle.tree_vectors.proofs.gate_words.Statement.{statement}
 use Rattle.tree_vectors.proofs.gate_words.Tie as tie
 
 abbrev Inv-loop : tie.InvT-loop
-Inv-loop words kept₀ i₀ kept i = i ≤ 384
+Inv-loop words kept₀ i₀ kept i = i ≤ gateSlots
 
 abbrev μ-loop : tie.MeasureT-loop
-μ-loop words kept₀ i₀ kept i = 384 - i
+μ-loop words kept₀ i₀ kept i = gateSlots - i
 
 loop-holds : tie.Need-loop-holds Inv-loop μ-loop
 loop-holds c = search needs

@@ -2,14 +2,15 @@
 -- Assumes nothing.
 use borrow.Author.Needs.{needs}
 use Prim.Native.Nat.{_-_, _≤_}
+use Rattle.selector.specs.Nodes.{nodeSlots}
 use Rattle.tree_vectors.proofs.node_words.Statement.{statement}
 use Rattle.tree_vectors.proofs.node_words.Tie as tie
 
 abbrev Inv-loop : tie.InvT-loop
-Inv-loop words kept₀ i₀ kept i = i ≤ 765
+Inv-loop words kept₀ i₀ kept i = i ≤ nodeSlots
 
 abbrev μ-loop : tie.MeasureT-loop
-μ-loop words kept₀ i₀ kept i = 765 - i
+μ-loop words kept₀ i₀ kept i = nodeSlots - i
 
 loop-holds : tie.Need-loop-holds Inv-loop μ-loop
 loop-holds c = search needs

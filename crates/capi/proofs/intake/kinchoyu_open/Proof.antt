@@ -4,6 +4,8 @@ use borrow.Author.Needs.{needs}
 use lib.ListN.{length}
 use mathlib.Core.Path.{_∙_, _≡_, sym}
 use Rattle.columns.specs.Intake.{storeOf}
+use Rattle.selector.specs.Gates.{gateSlots}
+use Rattle.selector.specs.Nodes.{nodeSlots}
 use Rattle.capi.specs.IntakeLaws.{open-given, open-made-up, open-short}
 use Rattle.capi.proofs.intake.kinchoyu_open.Statement.{statement}
 use Rattle.capi.proofs.intake.kinchoyu_open.Tie as tie
@@ -15,10 +17,10 @@ fault-requires : tie.Need-fault-requires
 fault-requires c κs = search needs
 
 -- the arrays of a plan by value have their lengths
-gates-long : (c : tie.After-decode-plan) → length (c .decode-plan .result .gates) ≡ 384
+gates-long : (c : tie.After-decode-plan) → length (c .decode-plan .result .gates) ≡ gateSlots
 gates-long c = search needs
 
-nodes-long : (c : tie.After-decode-plan) → length (c .decode-plan .result .nodes) ≡ 765
+nodes-long : (c : tie.After-decode-plan) → length (c .decode-plan .result .nodes) ≡ nodeSlots
 nodes-long c = search needs
 
 returns : tie.Need-returns

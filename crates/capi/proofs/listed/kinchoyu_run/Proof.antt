@@ -5,14 +5,16 @@ use lib.ListN.{length}
 use mathlib.Core.Path.{_≡_}
 use Rattle.columns.specs.Intake.{storeOf}
 use Rattle.capi.specs.ListedLaws.{run-given, run-short}
+use Rattle.selector.specs.Gates.{gateSlots}
+use Rattle.selector.specs.Nodes.{nodeSlots}
 use Rattle.capi.proofs.listed.kinchoyu_run.Statement.{statement}
 use Rattle.capi.proofs.listed.kinchoyu_run.Tie as tie
 
 -- the arrays of a plan by value have their lengths
-gates-long : (c : tie.After-run-listing) → length (c .run-listing .result .plan .gates) ≡ 384
+gates-long : (c : tie.After-run-listing) → length (c .run-listing .result .plan .gates) ≡ gateSlots
 gates-long c = search needs
 
-nodes-long : (c : tie.After-run-listing) → length (c .run-listing .result .plan .nodes) ≡ 765
+nodes-long : (c : tie.After-run-listing) → length (c .run-listing .result .plan .nodes) ≡ nodeSlots
 nodes-long c = search needs
 
 short-plan-requires : tie.Need-short-plan-requires

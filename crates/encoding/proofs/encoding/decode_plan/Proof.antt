@@ -1,10 +1,19 @@
--- `encoding::decode_plan` meets its contract: the length, the lookup mode, then each field from its place.
+-- `encoding::decode_plan` meets its contract: the length, the parameters and their lookup mode, then each field from its place.
 -- Assumes nothing.
 use borrow.Author.Needs.{needs}
-use mathlib.Core.Path.{_∙_, sym}
+use Prim.Native.Nat.{ℕ}
+use mathlib.Core.List.{List}
+use mathlib.Core.Path.{_∙_, _≡_, ap, sym}
+use Rattle.parameters.specs.Parameters.{parametersAt}
+use Rattle.parameters.specs.declared.parameters.Parameters.{Parameters}
+use Rattle.encoding.specs.Encoding.{lookupFits, lookupThere}
 use Rattle.encoding.specs.EncodingLaws.{plan-made, plan-none, plan-other}
 use Rattle.encoding.proofs.encoding.decode_plan.Statement.{statement}
 use Rattle.encoding.proofs.encoding.decode_plan.Tie as tie
+
+-- the lookup mode's words by the parameters that were read
+there : (ws : List ℕ) (p : Parameters) → p ≡ parametersAt ws → lookupThere ws ≡ lookupFits (p .mode) (p .width) (p .share)
+there ws p e = ap (λ (q : Parameters). lookupFits (q .mode) (q .width) (q .share)) (sym e)
 
 zero-requires : tie.Need-zero-requires
 zero-requires c κs = search needs
@@ -12,20 +21,11 @@ zero-requires c κs = search needs
 returns : tie.Need-returns
 returns c = c .zero .ensures ∙ plan-other (c .before .before .before .args .words .now) (c .before .if1 .taken)
 
-shared-slice-read-lookup-fits : tie.Need-shared-slice-read-lookup-fits
-shared-slice-read-lookup-fits c = search needs
-
-shared-slice-read-lookup-fits-2 : tie.Need-shared-slice-read-lookup-fits-2
-shared-slice-read-lookup-fits-2 c = search needs
-
-shared-slice-read-lookup-fits-3 : tie.Need-shared-slice-read-lookup-fits-3
-shared-slice-read-lookup-fits-3 c = search needs
+parameters-at-requires : tie.Need-parameters-at-requires
+parameters-at-requires c κs = search needs
 
 lookup-fits-requires : tie.Need-lookup-fits-requires
 lookup-fits-requires c κs = search needs
-
-parameters-at-requires : tie.Need-parameters-at-requires
-parameters-at-requires c κs = search needs
 
 sub-copy-words : tie.Need-sub-copy-words
 sub-copy-words c = search needs
@@ -60,51 +60,53 @@ copy-words-requires-2 c κs = search needs
 lookup-requires : tie.Need-lookup-requires
 lookup-requires c κs = search needs
 
+shared-slice-read-t23 : tie.Need-shared-slice-read-t23
+shared-slice-read-t23 c = search needs
+
+shared-slice-read-t26 : tie.Need-shared-slice-read-t26
+shared-slice-read-t26 c = search needs
+
+add-t10 : tie.Need-add-t10
+add-t10 c = search needs
+
+mul-t27 : tie.Need-mul-t27
+mul-t27 c = search needs
+
 shared-slice-read-t29 : tie.Need-shared-slice-read-t29
 shared-slice-read-t29 c = search needs
 
-shared-slice-read-t32 : tie.Need-shared-slice-read-t32
-shared-slice-read-t32 c = search needs
+add-t30 : tie.Need-add-t30
+add-t30 c = search needs
 
-add-t16 : tie.Need-add-t16
-add-t16 c = search needs
+mul-t31 : tie.Need-mul-t31
+mul-t31 c = search needs
 
-mul-t33 : tie.Need-mul-t33
-mul-t33 c = search needs
+shared-slice-read-t33 : tie.Need-shared-slice-read-t33
+shared-slice-read-t33 c = search needs
 
-shared-slice-read-t35 : tie.Need-shared-slice-read-t35
-shared-slice-read-t35 c = search needs
+add-t34 : tie.Need-add-t34
+add-t34 c = search needs
 
-add-t36 : tie.Need-add-t36
-add-t36 c = search needs
+mul-t35 : tie.Need-mul-t35
+mul-t35 c = search needs
 
-mul-t37 : tie.Need-mul-t37
-mul-t37 c = search needs
-
-shared-slice-read-t39 : tie.Need-shared-slice-read-t39
-shared-slice-read-t39 c = search needs
-
-add-t40 : tie.Need-add-t40
-add-t40 c = search needs
-
-mul-t41 : tie.Need-mul-t41
-mul-t41 c = search needs
-
-shared-slice-read-t43 : tie.Need-shared-slice-read-t43
-shared-slice-read-t43 c = search needs
+shared-slice-read-t37 : tie.Need-shared-slice-read-t37
+shared-slice-read-t37 c = search needs
 
 returns-2 : tie.Need-returns-2
 returns-2 c =
-    let ws = c .before .before .before .before .before .before .before .before .before .before .before .before .before .before .before .before .before .before .before .before .before .before .args .words .now in
-    plan-made ws (c .before .before .before .before .before .before .before .before .before .before .before .before .before .before .before .before .before .before .before .before .if1 .left) (sym (c .before .before .before .before .before .before .before .before .before .before .before .before .before .before .before .before .lookup-fits .ensures) ∙ c .before .before .before .before .before .before .before .before .before .before .before .before .before .before .before .if2 .taken)
-    _ _ _ _ (c .before .before .before .before .before .before .before .before .before .before .before .before .before .before .parameters-at .ensures) (c .before .before .before .before .before .lookup .ensures) (c .before .before .before .before .before .before .before .before .before .before .before .copy-words .ensures) (c .before .before .before .before .before .before .before .copy-words2 .ensures)
+    let ws = c .before .before .before .before .before .before .before .before .before .before .before .before .before .before .before .before .before .before .before .args .words .now in
+    let p = c .before .before .before .before .before .before .before .before .before .before .before .before .before .before .before .before .parameters-at .ensures in
+    plan-made ws (c .before .before .before .before .before .before .before .before .before .before .before .before .before .before .before .before .before .if1 .left) (there ws _ p ∙ sym (c .before .before .before .before .before .before .before .before .before .before .before .before .before .before .before .lookup-fits .ensures) ∙ c .before .before .before .before .before .before .before .before .before .before .before .before .before .before .if2 .taken)
+    _ _ _ _ p (c .before .before .before .before .before .lookup .ensures) (c .before .before .before .before .before .before .before .before .before .before .before .copy-words .ensures) (c .before .before .before .before .before .before .before .copy-words2 .ensures)
 
 zero-requires-2 : tie.Need-zero-requires-2
 zero-requires-2 c κs = search needs
 
 returns-3 : tie.Need-returns-3
 returns-3 c =
-    c .zero2 .ensures ∙ plan-none (c .before .before .before .before .before .before .before .before .args .words .now) (c .before .before .before .before .before .before .if1 .left) (sym (c .before .before .lookup-fits .ensures) ∙ c .before .if2 .left)
+    let ws = c .before .before .before .before .before .before .args .words .now in
+    c .zero2 .ensures ∙ plan-none ws (c .before .before .before .before .if1 .left) (there ws _ (c .before .before .before .parameters-at .ensures) ∙ sym (c .before .before .lookup-fits .ensures) ∙ c .before .if2 .left)
 
 pub decode-plan-spec : {M : Type 1} → statement M
 decode-plan-spec =
@@ -112,11 +114,8 @@ decode-plan-spec =
     (tie.spec
     zero-requires
     returns
-    shared-slice-read-lookup-fits
-    shared-slice-read-lookup-fits-2
-    shared-slice-read-lookup-fits-3
-    lookup-fits-requires
     parameters-at-requires
+    lookup-fits-requires
     sub-copy-words
     part-copy-words-start
     part-copy-words-end
@@ -128,17 +127,17 @@ decode-plan-spec =
     slice-aggregate-copy-words-2
     copy-words-requires-2
     lookup-requires
+    shared-slice-read-t23
+    shared-slice-read-t26
+    add-t10
+    mul-t27
     shared-slice-read-t29
-    shared-slice-read-t32
-    add-t16
-    mul-t33
-    shared-slice-read-t35
-    add-t36
-    mul-t37
-    shared-slice-read-t39
-    add-t40
-    mul-t41
-    shared-slice-read-t43
+    add-t30
+    mul-t31
+    shared-slice-read-t33
+    add-t34
+    mul-t35
+    shared-slice-read-t37
     returns-2
     zero-requires-2
     returns-3)

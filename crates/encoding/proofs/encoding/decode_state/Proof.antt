@@ -7,6 +7,7 @@ use native.Mathlib.Omega.{arith}
 use Rattle.pieces.specs.Opening.{zeroState}
 use Rattle.columns.specs.Intake.{withState}
 use Rattle.tree.specs.declared.plan.Plan.{Plan}
+use Rattle.encoding.specs.Encoding.{planLength}
 use Rattle.encoding.specs.EncodingLaws.{state-made, state-other}
 use Rattle.encoding.proofs.encoding.decode_state.Statement.{statement}
 use Rattle.encoding.proofs.encoding.decode_state.Tie as tie
@@ -33,7 +34,7 @@ copy-words-requires : tie.Need-copy-words-requires
 copy-words-requires c κs = search needs
 
 slice-aggregate-decode-plan : tie.Need-slice-aggregate-decode-plan
-slice-aggregate-decode-plan c = sym (length-take-le 1162 (c .before .before .before .before .before .before .before .args .words .now) (omega (arith, c .before .before .before .before .before .if1 .left)))
+slice-aggregate-decode-plan c = sym (length-take-le planLength (c .before .before .before .before .before .before .before .args .words .now) (omega (arith, c .before .before .before .before .before .if1 .left)))
 
 decode-plan-requires : tie.Need-decode-plan-requires
 decode-plan-requires c κs = search needs

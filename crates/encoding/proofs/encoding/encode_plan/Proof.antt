@@ -5,16 +5,18 @@ use lib.ListN.{length, length-set}
 use mathlib.Core.Path.{_∙_, _≡_, ap}
 use native.Mathlib.Omega.{arith}
 use Rattle.parameters.specs.Lookup.{flagOf}
-use Rattle.encoding.specs.Encoding.{planWords}
+use Rattle.selector.specs.Gates.{gateSlots}
+use Rattle.selector.specs.Nodes.{nodeSlots}
+use Rattle.encoding.specs.Encoding.{countAt, planWords}
 use Rattle.encoding.specs.EncodingLaws.{handed-short, plan-length, plan-written}
 use Rattle.encoding.proofs.encoding.encode_plan.Statement.{statement}
 use Rattle.encoding.proofs.encoding.encode_plan.Tie as tie
 
 -- the arrays of a plan by value have their lengths
-gates-long : (c : tie.Start) → length (c .args .plan .gates) ≡ 384
+gates-long : (c : tie.Start) → length (c .args .plan .gates) ≡ gateSlots
 gates-long c = search needs
 
-nodes-long : (c : tie.Start) → length (c .args .plan .nodes) ≡ 765
+nodes-long : (c : tie.Start) → length (c .args .plan .nodes) ≡ nodeSlots
 nodes-long c = search needs
 
 returns : tie.Need-returns
@@ -62,11 +64,11 @@ slice-aggregate-copy-words-4 c = search needs
 
 copy-words-requires-4 : tie.Need-copy-words-requires-4
 copy-words-requires-4 c κs =
-    omega (arith, c .before .before .before .before .copy-words3 .kept .1 .1 .0, length-set (c .before .before .before .before .before .before .before .before .before .before .copy-words2 .last .1 .1 .0) 392 (c .before .before .before .before .before .before .before .before .before .before .before .before .before .before .before .before .before .before .before .before .before .before .before .before .before .args .plan .«gate_count»), c .before .before .before .before .before .before .before .before .before .before .copy-words2 .kept .1 .1 .0, c .before .before .before .before .before .before .before .before .before .before .before .before .before .before .before .before .copy-words .kept .1 .1 .0, c .before .before .before .before .before .before .before .before .before .before .before .before .before .before .before .before .before .before .before .before .before .before .before .if1 .left)
+    omega (arith, c .before .before .before .before .copy-words3 .kept .1 .1 .0, length-set (c .before .before .before .before .before .before .before .before .before .before .copy-words2 .last .1 .1 .0) countAt (c .before .before .before .before .before .before .before .before .before .before .before .before .before .before .before .before .before .before .before .before .before .before .before .before .before .args .plan .«gate_count»), c .before .before .before .before .before .before .before .before .before .before .copy-words2 .kept .1 .1 .0, c .before .before .before .before .before .before .before .before .before .before .before .before .before .before .before .before .copy-words .kept .1 .1 .0, c .before .before .before .before .before .before .before .before .before .before .before .before .before .before .before .before .before .before .before .before .before .before .before .if1 .left)
 
 same-length : tie.Need-same-length
 same-length c =
-    c .before .before .copy-words4 .kept .1 .1 .0 ∙ c .before .before .before .before .before .before .before .copy-words3 .kept .1 .1 .0 ∙ length-set (c .before .before .before .before .before .before .before .before .before .before .before .before .before .copy-words2 .last .1 .1 .0) 392 (c .before .before .before .before .before .before .before .before .before .before .before .before .before .before .before .before .before .before .before .before .before .before .before .before .before .before .before .before .args .plan .«gate_count») ∙ c .before .before .before .before .before .before .before .before .before .before .before .before .before .copy-words2 .kept .1 .1 .0 ∙ c .before .before .before .before .before .before .before .before .before .before .before .before .before .before .before .before .before .before .before .copy-words .kept .1 .1 .0
+    c .before .before .copy-words4 .kept .1 .1 .0 ∙ c .before .before .before .before .before .before .before .copy-words3 .kept .1 .1 .0 ∙ length-set (c .before .before .before .before .before .before .before .before .before .before .before .before .before .copy-words2 .last .1 .1 .0) countAt (c .before .before .before .before .before .before .before .before .before .before .before .before .before .before .before .before .before .before .before .before .before .before .before .before .before .before .before .before .args .plan .«gate_count») ∙ c .before .before .before .before .before .before .before .before .before .before .before .before .before .copy-words2 .kept .1 .1 .0 ∙ c .before .before .before .before .before .before .before .before .before .before .before .before .before .before .before .before .before .before .before .copy-words .kept .1 .1 .0
 
 returns-2 : tie.Need-returns-2
 returns-2 c =

@@ -3,13 +3,14 @@
 use borrow.Author.Needs.{needs}
 use lib.ListN.{length, length-set}
 use mathlib.Core.Path.{_∙_, _≡_, sym}
-use Rattle.encoding.specs.Encoding.{progressWords}
+use Rattle.base.specs.Limits.{mostGates}
+use Rattle.encoding.specs.Encoding.{phaseAt, progressWords}
 use Rattle.encoding.specs.EncodingLaws.{progress-written, progressed-short}
 use Rattle.encoding.proofs.encoding.encode_progress.Statement.{statement}
 use Rattle.encoding.proofs.encoding.encode_progress.Tie as tie
 
 -- an array by value has its length
-used-long : (c : tie.Start) → length (c .args .t6) ≡ 128
+used-long : (c : tie.Start) → length (c .args .t6) ≡ mostGates
 used-long c = search needs
 
 slice-aggregate-copy-words : tie.Need-slice-aggregate-copy-words
@@ -29,7 +30,7 @@ slice-write-words c = search needs
 
 same-length : tie.Need-same-length
 same-length c =
-    length-set (c .before .before .copy-words2 .last .1 .1 .0) 1295 (c .before .before .before .before .before .before .before .before .before .before .before .before .args .phase) ∙ c .before .before .copy-words2 .kept .1 .1 .0 ∙ c .before .before .before .before .before .before .before .copy-words .kept .1 .1 .0
+    length-set (c .before .before .copy-words2 .last .1 .1 .0) phaseAt (c .before .before .before .before .before .before .before .before .before .before .before .before .args .phase) ∙ c .before .before .copy-words2 .kept .1 .1 .0 ∙ c .before .before .before .before .before .before .before .copy-words .kept .1 .1 .0
 
 returns : tie.Need-returns
 returns c =

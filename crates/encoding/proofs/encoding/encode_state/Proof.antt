@@ -4,19 +4,22 @@ use borrow.Author.Needs.{needs}
 use lib.ListN.{length}
 use mathlib.Core.Path.{_∙_, _≡_}
 use native.Mathlib.Omega.{arith}
+use Rattle.base.specs.Limits.{mostGates}
+use Rattle.selector.specs.Gates.{gateSlots}
+use Rattle.selector.specs.Nodes.{nodeSlots}
 use Rattle.encoding.specs.Encoding.{intakeWords}
 use Rattle.encoding.specs.EncodingLaws.{handed-short, state-length, state-written}
 use Rattle.encoding.proofs.encoding.encode_state.Statement.{statement}
 use Rattle.encoding.proofs.encoding.encode_state.Tie as tie
 
 -- the arrays of a state by value have their lengths
-gates-long : (c : tie.Start) → length (c .args .state .plan .gates) ≡ 384
+gates-long : (c : tie.Start) → length (c .args .state .plan .gates) ≡ gateSlots
 gates-long c = search needs
 
-nodes-long : (c : tie.Start) → length (c .args .state .plan .nodes) ≡ 765
+nodes-long : (c : tie.Start) → length (c .args .state .plan .nodes) ≡ nodeSlots
 nodes-long c = search needs
 
-used-long : (c : tie.Start) → length (c .args .state .used) ≡ 128
+used-long : (c : tie.Start) → length (c .args .state .used) ≡ mostGates
 used-long c = search needs
 
 returns : tie.Need-returns

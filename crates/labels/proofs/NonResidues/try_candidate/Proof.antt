@@ -9,6 +9,7 @@ use lib.ListN.{length}
 use lib.Seq.{length-take-le}
 use Rattle.field.specs.Field.{fpow, isNonResidue}
 use Rattle.labels.specs.Labels.{absent}
+use Rattle.labels.specs.Ranges.{mostColumns}
 use Rattle.labels.specs.Search.{stored, held-powers, held-next, tried-kept, tried-coset, tried-residue}
 use borrow.Author.Needs.{needs}
 use Rattle.labels.proofs.NonResidues.try_candidate.Statement.{statement}
@@ -23,13 +24,13 @@ pow-requires c κs = search needs
 array-share-prefix-powers : tie.Need-array-share-prefix-powers
 array-share-prefix-powers c =
     let s = c .before .before .before .before in
-    let l : length (s .args .t1 .powers) ≡ 64 = search needs in
+    let l : length (s .args .t1 .powers) ≡ mostColumns = search needs in
     omega (arith, s .pre)
 
 slice-aggregate-is-absent : tie.Need-slice-aggregate-is-absent
 slice-aggregate-is-absent c =
     let s = c .before .before .before .before .before in
-    let l : length (s .args .t1 .powers) ≡ 64 = search needs in
+    let l : length (s .args .t1 .powers) ≡ mostColumns = search needs in
     sym (length-take-le (s .args .t1 .kept) (s .args .t1 .powers) (omega (arith, s .pre)))
 
 is-absent-requires : tie.Need-is-absent-requires

@@ -9,7 +9,7 @@ use lib.ListN.{length}
 use native.Mathlib.Omega.{arith}
 use Rattle.selector.specs.Gates.{gateWords}
 use Rattle.pieces.specs.Records.{rowSize, tableSize}
-use Rattle.listing.specs.Listing.{parameterWords}
+use Rattle.parameters.specs.Parameters.{parameterWords}
 use Rattle.listing.specs.Ends.{fixedEnd, recordsEnd}
 use Rattle.listing.specs.EndLaws.{Known, section-known, section-missing, fixed-past, records-past, late-parameters, wrong-count, late-gates, late-rows, late-s, late-cells, late-tables, found-whole}
 use Rattle.listing.specs.declared.sections.Part.{Part}

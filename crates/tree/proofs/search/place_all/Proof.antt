@@ -6,7 +6,9 @@ use borrow.Author.Needs.{needs}
 use lib.ListN.{getD}
 use mathlib.Core.Path.{_∙_, ap, sym}
 use native.Mathlib.Omega.{arith}
-use Rattle.selector.specs.Flat.{Placed, levels}
+use Rattle.selector.specs.Nodes.{mostLevels}
+use Rattle.base.specs.Limits.{mostGates}
+use Rattle.selector.specs.Flat.{Placed}
 use Rattle.selector.specs.FlatLaws.{refused}
 use Rattle.selector.specs.Search.{mayStand}
 use Rattle.tree.proofs.SearchLaws.{Growing, grow-begin, grow-end, grow-fits, grow-next, grow-none, grow-not, grow-stop, listed-at, stands}
@@ -17,7 +19,7 @@ abbrev Inv-loop : tie.InvT-loop
 Inv-loop gates order nodes₀ many base extra target bound gate count₀ i₀ nodes count i = Growing (mayStand extra gates target bound) gates many base order nodes₀ nodes count i
 
 abbrev μ-loop : tie.MeasureT-loop
-μ-loop gates order nodes₀ many base extra target bound gate count₀ i₀ nodes count i = 128 - i
+μ-loop gates order nodes₀ many base extra target bound gate count₀ i₀ nodes count i = mostGates - i
 
 returns : tie.Need-returns Inv-loop μ-loop
 returns c =
@@ -72,7 +74,7 @@ returns-2 c =
     let p = s .pre in
     let e = c .before .try-add-gate .ensures in
     let n = sym (e .0) ∙ c .if3 .taken in
-    let kept = e .1 ∙ ap (λ (z : Placed). z .nodes) (refused (mayStand (a .extra) (a .gates .now) (a .target) (a .bound)) (getD (a .order .now) (l .i) 0) (l .nodes) (l .count) levels 0 0 n) in
+    let kept = e .1 ∙ ap (λ (z : Placed). z .nodes) (refused (mayStand (a .extra) (a .gates .now) (a .target) (a .bound)) (getD (a .order .now) (l .i) 0) (l .nodes) (l .count) mostLevels 0 0 n) in
     rw kept (
       stands (a .extra) (a .target) (a .bound) (a .gates .now) (a .many) (a .base) (a .order .now) (a .nodes .now) (p .0 .0) (p .0 .1) (p .0 .2) (p .0 .3) (p .1 .0) (p .1 .1) _ _
           (grow-fits (mayStand (a .extra) (a .gates .now) (a .target) (a .bound)) (a .gates .now) (a .many) (a .base) (p .0 .0) (a .order .now) (p .0 .2) (p .1 .0) _ (a .nodes .now) (q .before .before .before .before .before .if1 .left) (q .put-node .ensures) (sym (q .before .before .before .may-stand .ensures) ∙ q .before .before .if2 .taken)

@@ -5,6 +5,8 @@ use borrow.Author.Needs.{needs}
 use lib.ListN.{length}
 use mathlib.Core.Path.{_∙_, _≡_, ap, refl}
 use native.Mathlib.Omega.{arith}
+use Rattle.selector.specs.Nodes.{nodeSlots}
+use Rattle.base.specs.Limits.{mostGates}
 use Rattle.base.specs.Exponent.{exponent, exponent-least}
 use Rattle.selector.specs.RecordLaws.{top-constants, top-degree}
 use Rattle.selector.specs.Search.{factorOf, firstTarget, searchTree, targets}
@@ -14,7 +16,7 @@ use Rattle.tree.proofs.search.search.Tie as tie
 
 abbrev Inv-loop : tie.InvT-loop
 Inv-loop gates nodes₀ many extra order ranged base left target₀ k₀ nodes target k =
-    (k ≤ targets) × (target ≤ cap k) × (length nodes ≡ 765) × (searchTree extra gates many ≡ firstTarget (within gates many extra) k target)
+    (k ≤ targets) × (target ≤ cap k) × (length nodes ≡ nodeSlots) × (searchTree extra gates many ≡ firstTarget (within gates many extra) k target)
 
 abbrev μ-loop : tie.MeasureT-loop
 μ-loop gates nodes₀ many extra order ranged base left target₀ k₀ nodes target k = k
@@ -34,7 +36,7 @@ add-left c = omega arith
 add-left-2 : tie.Need-add-left-2 Inv-loop μ-loop
 add-left-2 c =
     let r = c .before .before .arrange in
-    let few : exponent (128 - r .result .base) ≤ 7 = exponent-least (128 - r .result .base) 7 (omega arith) in
+    let few : exponent (mostGates - r .result .base) ≤ 7 = exponent-least (mostGates - r .result .base) 7 (omega arith) in
     omega (arith, c .before .power-above .ensures .0)
 
 factor-of-requires : tie.Need-factor-of-requires Inv-loop μ-loop
@@ -66,7 +68,7 @@ try-find-placement-for-degree-requires c κs =
     let r = c .before .before .before .before .before .before .before .arrange in
     let l = c .before .before .before .loop in
     let w = c .before .before .before .before .before .before .power-above in
-    let few : exponent (128 - r .result .base) ≤ 7 = exponent-least (128 - r .result .base) 7 (omega arith) in
+    let few : exponent (mostGates - r .result .base) ≤ 7 = exponent-least (mostGates - r .result .base) 7 (omega arith) in
     let q = top-constants (a .gates .now) (a .many) (a .extra) (p .0) in (
       (p .0 .all, omega (arith, r .ensures .1 .1 .0, w .ensures .0), r .ensures .1 .1 .1 .0, l .inv .2),
       (

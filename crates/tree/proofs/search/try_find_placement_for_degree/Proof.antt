@@ -6,6 +6,7 @@ use mathlib.Core.List.{List}
 use mathlib.Core.Option.{Option}
 use mathlib.Core.Path.{_∙_, _≡_, refl}
 use native.Mathlib.Omega.{arith}
+use Rattle.selector.specs.Nodes.{nodeSlots}
 use Rattle.selector.specs.Search.{firstBound, mayStand}
 use Rattle.selector.specs.Tree.{Tree, grown}
 use Rattle.tree.proofs.SearchLaws.{bound-lost, bound-none, bound-won}
@@ -16,7 +17,7 @@ abbrev each : List ℕ → List ℕ → ℕ → ℕ → ℕ → ℕ → Option T
 each gates order base extra target b = grown (mayStand extra gates target b) (drop base order)
 
 abbrev Inv-loop : tie.InvT-loop
-Inv-loop gates order nodes₀ many base extra target bound left b₀ k₀ nodes b k = (b + k ≡ bound + left) × (length nodes ≡ 765)
+Inv-loop gates order nodes₀ many base extra target bound left b₀ k₀ nodes b k = (b + k ≡ bound + left) × (length nodes ≡ nodeSlots)
     × (firstBound (each gates order base extra target) left bound ≡ firstBound (each gates order base extra target) k b)
 
 abbrev μ-loop : tie.MeasureT-loop
