@@ -23,7 +23,8 @@ mostNodes = mostGates * 2 - 1
 abbrev pub nodeSlots : ℕ
 nodeSlots = mostNodes * nodeSize
 
--- "a leaf below depth 31": a tree has at most this many levels, so that depth 31 is the last. The search goes no deeper either.
+-- "a leaf below depth 31": a tree has at most this many levels, so that depth 31 is the last. The search has as many, which every bound is
+-- within.
 abbrev pub mostLevels : ℕ
 mostLevels = 32
 

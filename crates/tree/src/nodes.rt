@@ -16,7 +16,7 @@ use selector::NODE_SLOTS;
 use selector::NODE_WORDS;
 use selector::Nodes;
 
-// The search's trees are at most `MOST_LEVELS` deep.
+// All that the search says of a tree is that it is at most `MOST_LEVELS` deep, which is one level more.
 const LAID_LEVELS: u64 = MOST_LEVELS + 1;
 
 // Writes a node's three words.
