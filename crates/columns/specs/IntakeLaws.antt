@@ -16,7 +16,7 @@ use Rattle.tree.specs.declared.plan.Plan.{Plan}
 use Rattle.pieces.specs.Setting.{Setting, State, Store, Cols, stands, constantRoom, copyRoom, scratchRoom, tableRoom, specialRoom}
 use Rattle.pieces.specs.Records.{rowsOf, tablesOf}
 use Rattle.pieces.specs.Opening.{roomToOpen, openNumber, openStore, openState}
-use Rattle.pieces.specs.Rows.{rowsFault, rowsNumber, rowsWritten, rowsState}
+use Rattle.pieces.specs.Rows.{gatesOf, rowsFault, rowsNumber, rowsWritten, rowsState}
 use Rattle.pieces.specs.SWords.{sWordsFault, sWordsNumber, sWordsWritten, sWordsState}
 use Rattle.pieces.specs.Cells.{cellsFault, cellsNumber, roomForCells, cellsWritten, cellsState}
 use Rattle.pieces.specs.Tables.{tablesFault, tablesNumber, tablesWritten, tablesState, stackOf}
@@ -60,7 +60,7 @@ module _ (s : Intake) (ws : List ℕ) where
     unfolding rowsNumber
     rows-10 e h = rw (e, lt-leb (constantRoom x) (length b) h)
 
-    pub rows-own : stands x st ≡ true → constantRoom x ≤ length b → rowsNumber x st ws b ≡ rowsFault (x .gates) (x .own) (x .trace) (st .rowCount) (rowsOf ws)
+    pub rows-own : stands x st ≡ true → constantRoom x ≤ length b → rowsNumber x st ws b ≡ rowsFault (gatesOf x) (x .trace) (st .rowCount) (rowsOf ws)
     unfolding rowsNumber
     rows-own e h = rw (e, le-leb (constantRoom x) (length b) h)
 

@@ -8,7 +8,7 @@ use Rattle.base.specs.Pick.{pick}
 use Rattle.pieces.specs.Setting.{Setting, State, Store, Held, copyRoom, specialRoom, stands}
 use Rattle.pieces.specs.Records.{rowsOf, tablesOf}
 use Rattle.pieces.specs.Opening.{openNumber, openState, fresh}
-use Rattle.pieces.specs.Rows.{rowsFault, rowsState}
+use Rattle.pieces.specs.Rows.{gatesOf, rowsFault, rowsState}
 use Rattle.pieces.specs.SWords.{sWordsFault, sWordsState}
 use Rattle.pieces.specs.Cells.{cellsFault, cellsState, roomForCells}
 use Rattle.pieces.specs.Tables.{stackOf, tablesFault, tablesState}
@@ -43,7 +43,7 @@ sectionsNumber x b r s c t =
 -- the same without buffers, as the code tells it: the first fault of the four sections, each from its start on (`first-pieces`), and the state after them
 abbrev pub piecesFault : Setting → List ℕ → List ℕ → List ℕ → List ℕ → ℕ
 piecesFault x r s c t =
-    orNumber (rowsFault (x .gates) (x .own) (x .trace) 0 (rowsOf r))
+    orNumber (rowsFault (gatesOf x) (x .trace) 0 (rowsOf r))
     (orNumber (sWordsFault (specialRoom x) 0 s)
     (orNumber (cellsFault (copyRoom x) (x .variables) 0 c) (tablesFault (x .lookup) (x .width) (x .trace) (stackOf openState) (tablesOf t))))
 

@@ -7,7 +7,7 @@ ghost use Prim.Native.Nat.{ℕ};
 ghost use Rattle.tree.specs.Plan.{planFault};
 ghost use Rattle.pieces.specs.Records.{rowsOf};
 ghost use Rattle.pieces.specs.Opening.{openNumber};
-ghost use Rattle.pieces.specs.Rows.{rowsFault};
+ghost use Rattle.pieces.specs.Rows.{gatesOf, rowsFault};
 ghost use Rattle.columns.specs.Intake.{settingOf, storeOf};
 ghost use Rattle.columns.specs.Sections.{sectionsNumber, piecesFault, afterPieces, lastTests};
 use crate::cells::cells_fault;
@@ -69,7 +69,7 @@ fn pieces_fault(plan: Plan, rows: &[u64], s_words: &[u64], cells: &[u64], tables
 // 16 and 17, of sections without a fault.
 fn last_tests(plan: Plan, rows: &[u64], s_words: &[u64], cells: &[u64]) -> u64
     requires { ⌜ planFault plan ≡ 0 ⌝ }
-    requires { ⌜ rowsFault (settingOf plan .gates) (settingOf plan .own) (settingOf plan .trace) 0 (rowsOf (now rows)) ≡ 0 ⌝ }
+    requires { ⌜ rowsFault (gatesOf (settingOf plan)) (settingOf plan .trace) 0 (rowsOf (now rows)) ≡ 0 ⌝ }
     ensures { λ r. ⌜ ((t : List ℕ) → r ≡ lastTests (settingOf plan) (afterPieces (now (rows .entry)) (now («s_words» .entry)) (now (cells .entry)) t)) ⌝ }
 {
     let gates = plan.gate_rows();

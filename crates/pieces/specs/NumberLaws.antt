@@ -13,7 +13,7 @@ use borrow.Author.Tests.{leb-true, eqb-true}
 use Rattle.base.specs.Pick.{pick, both, pick-zero, both-true}
 use Rattle.pieces.specs.Setting.{Setting, State, Cols, constantRoom, copyRoom, tableRoom, specialRoom, mostTables, isOpened, stands}
 use Rattle.pieces.specs.Records.{rowsOf, tablesOf}
-use Rattle.pieces.specs.Rows.{rowsFault, rowsNumber}
+use Rattle.pieces.specs.Rows.{gatesOf, rowsFault, rowsNumber}
 use Rattle.pieces.specs.SWords.{sWordsFault, sWordsNumber}
 use Rattle.pieces.specs.Cells.{cellsFault, cellsNumber, roomForCells}
 use Rattle.pieces.specs.Tables.{tablesFault, tablesNumber, stackOf}
@@ -71,7 +71,7 @@ accepted x s room fault e =
 
 module _ (x : Setting) (s : State) where
   pub rows-accepted : (ws b : List ℕ) → rowsNumber x s ws b ≡ 0
-      → Accepted x s (leb (constantRoom x) (length b)) (rowsFault (x .gates) (x .own) (x .trace) (s .rowCount) (rowsOf ws))
+      → Accepted x s (leb (constantRoom x) (length b)) (rowsFault (gatesOf x) (x .trace) (s .rowCount) (rowsOf ws))
   unfolding rowsNumber
   rows-accepted ws b e = accepted x s _ _ e
 

@@ -31,7 +31,7 @@ gates c = gates-of (c .before .before .before .before .args .plan) (c .gate-rows
 test-rows-requires : tie.Need-test-rows-requires
 test-rows-requires c κs =
     let w = fine (c .before .before .before .before .before .before .before) in
-    (omega (arith, w .few-gates, gates (c .before .before .before) .many-is), omega arith, w .ranges .long)
+    (omega (arith, w .few-gates, gates (c .before .before .before) .alike .many-same), omega arith, w .ranges .long)
 
 complete-requires : tie.Need-complete-requires
 complete-requires c κs = search needs

@@ -7,10 +7,10 @@ use native.Mathlib.Nat.{mul-le-mul}
 use lib.Dec.{ltb}
 use Rattle.base.specs.Firsts.{first-none, first-found}
 use Rattle.parameters.specs.Lookup.{modeOf, widthOf}
-use Rattle.tree.specs.Plan.{planOwn}
 use Rattle.pieces.specs.Records.{rowsOf, tablesOf}
-use Rattle.pieces.specs.Rows.{rowsFault}
+use Rattle.pieces.specs.Rows.{gatesOf, rowsFault}
 use Rattle.pieces.specs.Tables.{tablesFault}
+use Rattle.columns.specs.Intake.{settingOf}
 use Rattle.columns.specs.Stacked.{stack}
 use Rattle.tree.specs.SoundLaws.{Sound, sound}
 use Rattle.columns.proofs.RowLoop.{GatesOf, gates-of, gates-fault}
@@ -30,11 +30,11 @@ gates c = gates-of (c .before .before .before .before .before .args .plan) (c .g
 test-rows-requires : tie.Need-test-rows-requires
 test-rows-requires c κs =
     let w = fine (c .before .before .before .before .before .before .before .before) in
-    (omega (arith, w .few-gates, gates (c .before .before .before) .many-is), omega arith, w .ranges .long)
+    (omega (arith, w .few-gates, gates (c .before .before .before) .alike .many-same), omega arith, w .ranges .long)
 
 -- the rows' number: the gates' constants are the plan's
 in-rows : (c : tie.After-test-rows) → let a = c .before .before .before .before .before .before .before .before .before .args in
-    c .test-rows .result .number ≡ rowsFault (a .plan .«gate_count») (planOwn (a .plan)) (a .plan .trace) 0 (rowsOf (a .rows .now))
+    c .test-rows .result .number ≡ rowsFault (gatesOf (settingOf (a .plan))) (a .plan .trace) 0 (rowsOf (a .rows .now))
 in-rows c =
     let a = c .before .before .before .before .before .before .before .before .before .args in
     c .test-rows .ensures .0 ∙ gates-fault (a .plan) (c .before .before .before .before .gate-rows .result) (gates (c .before .before .before .before)) (a .plan .trace) 0 (rowsOf (a .rows .now))

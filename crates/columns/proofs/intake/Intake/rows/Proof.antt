@@ -60,7 +60,7 @@ gates c = gates-of (c .before .before .before .before .before .before .before .b
 test-rows-requires : tie.Need-test-rows-requires
 test-rows-requires c κs =
     let w = fine (c .before .before .before .before .before .before .before .before .before) in
-    (omega (arith, w .few-gates, gates (c .before .before .before .before) .many-is), counts (c .before .before .before .before .before .before .before .before .before) .rows-in, w .ranges .long)
+    (omega (arith, w .few-gates, gates (c .before .before .before .before) .alike .many-same), counts (c .before .before .before .before .before .before .before .before .before) .rows-in, w .ranges .long)
 
 -- the piece's number is its first faulty record's
 own : (c : tie.After-test-rows) → let a = c .before .before .before .before .before .before .before .before .before .before .before .before .before .before .args in rowsNumber (settingOf (a .self .plan)) (stateOf (a .self)) (a .piece .now) (a .constants .now) ≡ c .test-rows .result .number
@@ -84,8 +84,8 @@ write-rows-requires c κs =
     let w = fine (c .before .before .before .before .before .before .before .before .before .before .before .before .before) in
     let g = gates (c .before .before .before .before .before .before .before .before) in
     let room : q .constants * q .trace ≤ length (c .before .before .before .before .before .before .before .before .before .before .before .before .before .before .before .before .before .args .constants .now) = omega (arith, c .before .before .before .before .before .before .before .before .before .if2 .left, c .before .before .before .before .before .before .before .before .before .before .before .rooms-of .ensures .constants-are) in (
-      (w .ranges .long, omega (arith, w .height), omega (arith, w .few-gates, g .many-is), room),
-      (rw (g .many-is) (g .room), sym (c .before .before .before .test-rows .ensures .0) ∙ c .before .if3 .left),
+      (w .ranges .long, omega (arith, w .height), omega (arith, w .few-gates, g .alike .many-same), room),
+      (g .room, sym (c .before .before .before .test-rows .ensures .0) ∙ c .before .if3 .left),
     )
 
 same-length : tie.Need-same-length
@@ -100,7 +100,7 @@ returns-3 c =
     let g = gates (c .before .before .before .before .before .before .before .before .before .before .before) in
     let w = c .before .before .write-rows .ensures in
     let m = c .before .before .before .before .before .before .test-rows .ensures .1 z in
-    (rw (m .0, m .1) (k .0), w (planPath (a .self .plan)) (rw (g .many-is) (g .spells-paths)) ∙ k .1)
+    (rw (m .0, m .1) (k .0), w (planPath (a .self .plan)) (g .spells-paths) ∙ k .1)
 
 refused-requires-3 : tie.Need-refused-requires-3
 refused-requires-3 c κs = search needs
