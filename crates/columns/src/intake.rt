@@ -1,13 +1,10 @@
 // The intake: 01's state between calls, and the calls. Each call is lent just the buffers that it
 // may write. A refusal hands the state back as it was and writes nothing.
 ghost use mathlib.Core.Path.{_≡_};
-ghost use Prim.Native.Nat.{_*_, _+_};
 ghost use Rattle.tree.specs.Plan.{planFault};
 ghost use Rattle.pieces.specs.Setting.{cols, stands};
-ghost use Rattle.base.specs.Pick.{pick};
-ghost use Rattle.pieces.specs.Opening.{roomToOpen, startState};
+ghost use Rattle.pieces.specs.Opening.{startState};
 ghost use Rattle.pieces.specs.Finishing.{complete};
-ghost use Rattle.columns.specs.Rooms.{RoomsOf};
 ghost use Rattle.columns.specs.Intake.{settingOf, stateOf, withState, storeOf, refusedWith, openAnswer, openLeft, rowsAnswer, rowsLeft, sWordsAnswer, sWordsLeft, cellsAnswer, cellsLeft, tablesAnswer, tablesLeft, finishAnswer, finishLeft};
 use crate::cells::cells_fault;
 use crate::cells::place_cells;
@@ -16,6 +13,8 @@ use crate::finishing::scratch_fine;
 use crate::finishing::write_firsts;
 use crate::opening::clear;
 use crate::records::write_words;
+use crate::rooms::room_number;
+use crate::rooms::rooms_of;
 use crate::row_tests::test_rows;
 use crate::rows::write_rows;
 use crate::s_words::s_words_fault;
@@ -58,58 +57,6 @@ fn refused(number: u64, state: Intake) -> Taken
         number: number,
         state: state,
     }
-}
-
-// The named words of each buffer.
-struct Rooms {
-    constants: usize,
-    copies: usize,
-    scratch: usize,
-    tables: usize,
-}
-
-fn rooms_of(plan: Plan) -> Rooms
-    requires { ⌜ planFault plan ≡ 0 ⌝ }
-    ensures { λ r. ⌜ RoomsOf (settingOf plan) r ⌝ }
-{
-    let lookup = plan.lookup;
-    let mut tables: u64 = 0;
-    if 0 < lookup.mode() {
-        tables = (lookup.lookup_width() + 1) * plan.trace;
-    }
-    Rooms {
-        constants: ((plan.constants + plan.specialised) * plan.trace) as usize,
-        copies: (plan.copy * plan.trace) as usize,
-        scratch: (2 * plan.variables) as usize,
-        tables: tables as usize,
-    }
-}
-
-// 10 where a buffer is too short to be opened, else 0.
-pub(crate) fn room_number(
-    plan: Plan,
-    constants: &[u64],
-    copies: &[u64],
-    scratch: &[u64],
-    tables: &[u64],
-) -> u64
-    requires { ⌜ planFault plan ≡ 0 ⌝ }
-    ensures { λ r. ⌜ r ≡ pick (roomToOpen (settingOf plan) (storeOf (now (constants .entry)) (now (copies .entry)) (now (scratch .entry)) (now (tables .entry)))) 0 10 ⌝ }
-{
-    let rooms = rooms_of(plan);
-    if constants.len() < rooms.constants {
-        return 10;
-    }
-    if copies.len() < rooms.copies {
-        return 10;
-    }
-    if scratch.len() < rooms.scratch {
-        return 10;
-    }
-    if tables.len() < rooms.tables {
-        return 10;
-    }
-    0
 }
 
 impl Intake {

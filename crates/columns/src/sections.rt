@@ -14,7 +14,7 @@ use crate::cells::cells_fault;
 use crate::finishing::all_used;
 use crate::intake::Intake;
 use crate::intake::OPEN;
-use crate::intake::room_number;
+use crate::rooms::room_number;
 use crate::row_tests::test_rows;
 use crate::s_words::s_words_fault;
 use crate::tables::tables_fault;
