@@ -18,7 +18,7 @@ use Rattle.base.specs.Tables.{table-length}
 use Rattle.labels.specs.Labels.{representativesOf, labelOf}
 use Rattle.tree.specs.Plan.{planFault}
 use Rattle.tree.specs.declared.plan.Plan.{Plan}
-use Rattle.pieces.specs.Setting.{Setting, State, Store, Held, Cols, constantRoom, copyRoom, scratchRoom, tableRoom, specialRoom, mostTables, isOpened, stands}
+use Rattle.pieces.specs.Setting.{Setting, State, Store, Held, Cols, constantRoom, copyRoom, scratchRoom, tableRoom, specialRoom, mostTables, isOpened, countsFit, stands}
 use Rattle.pieces.specs.Records.{Read, rowsOf, tablesOf}
 use Rattle.base.specs.Limits.{mostGates}
 use Rattle.pieces.specs.Opening.{roomToOpen, openNumber, openState, fresh}
@@ -139,7 +139,7 @@ module _ (x : Setting) (h : Held) (k : Ready x h) where
   b = h .store
 
   ready-stands : stands x s ≡ true
-  unfolding stands
+  unfolding stands countsFit
   ready-stands =
       rw (
         k .sound-plan,

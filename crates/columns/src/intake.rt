@@ -2,7 +2,7 @@
 // may write. A refusal hands the state back as it was and writes nothing.
 ghost use mathlib.Core.Path.{_≡_};
 ghost use Rattle.tree.specs.Plan.{planFault};
-ghost use Rattle.pieces.specs.Setting.{cols, stands};
+ghost use Rattle.pieces.specs.Setting.{cols, countsFit, stands};
 ghost use Rattle.pieces.specs.Opening.{startState};
 ghost use Rattle.pieces.specs.Finishing.{complete};
 ghost use Rattle.columns.specs.Intake.{settingOf, stateOf, withState, storeOf, refusedWith, openAnswer, openLeft, rowsAnswer, rowsLeft, sWordsAnswer, sWordsLeft, cellsAnswer, cellsLeft, tablesAnswer, tablesLeft, finishAnswer, finishLeft};
@@ -83,6 +83,34 @@ impl Intake {
         self.plan
     }
 
+    // Whether no count is past its section.
+    fn counts_fit(self) -> bool
+        requires { ⌜ planFault (self .plan) ≡ 0 ⌝ }
+        ensures { λ r. ⌜ r ≡ countsFit (settingOf (self .plan)) (stateOf self) ⌝ }
+    {
+        let plan = self.plan;
+        if plan.trace < self.rows {
+            return false;
+        }
+        if plan.specialised * plan.trace < self.s_words {
+            return false;
+        }
+        if plan.copy * plan.trace < self.cells {
+            return false;
+        }
+        let lookup = plan.lookup;
+        if 0 < lookup.mode() {
+            if MOST_TABLES < self.tables {
+                return false;
+            }
+            return self.table_rows <= plan.trace;
+        }
+        if 0 < self.tables {
+            return false;
+        }
+        self.table_rows <= 0
+    }
+
     // Whether this is no made-up state: a sound plan, open, and no count past its section.
     fn stands(self) -> bool
         ensures { λ r. ⌜ r ≡ stands (settingOf (self .plan)) (stateOf self) ⌝ }
@@ -104,26 +132,7 @@ impl Intake {
         if self.phase != OPEN {
             return false;
         }
-        if plan.trace < self.rows {
-            return false;
-        }
-        if plan.specialised * plan.trace < self.s_words {
-            return false;
-        }
-        if plan.copy * plan.trace < self.cells {
-            return false;
-        }
-        let lookup = plan.lookup;
-        if 0 < lookup.mode() {
-            if MOST_TABLES < self.tables {
-                return false;
-            }
-            return self.table_rows <= plan.trace;
-        }
-        if 0 < self.tables {
-            return false;
-        }
-        self.table_rows <= 0
+        self.counts_fit()
     }
 
     // Opens the columns of a plan: named words zeroed, labels written, words beyond kept. A refusal
