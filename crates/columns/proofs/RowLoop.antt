@@ -4,8 +4,10 @@ use mathlib.Core.Logic.{_≢_}
 use mathlib.Core.List.{List, [], _∷_}
 use Prim.Native.Nat.{ℕ, suc, _+_, _-_, _≤_, _<_}
 use native.Mathlib.Numerals.{add-one}
+use native.Mathlib.Decide.{ℕ-discrete}
 use native.Mathlib.Omega.{arith}
 use lib.ListN.{length, getD, set, take, drop, length-drop}
+use borrow.Author.Tests.{eq-eqb, ne-eqb}
 use Rattle.pieces.specs.Records.{Read, whole, rowSize, rowsOf, firstFault}
 use Rattle.pieces.specs.Front.{front}
 use Rattle.pieces.specs.Rows.{Gates, gatesOf, rowFault, rowsFault, marked}
@@ -109,6 +111,17 @@ gates-of q r e a =
       spells-paths = record { spells = λ g h. w g (listed g h) .path };
       room = record { fits = λ g h. let k = listed g h in omega (arith, w g k .path .steps-are, w g k .own, sound q e .fits g k) };
     }
+
+-- its number is 0 just where the plan has no fault
+pub gates-number : (q : Plan) (r : GateRows) → r ≡ gateRowsAnswer q → (r .number ≡ 0 → planFault q ≡ 0) × (planFault q ≡ 0 → r .number ≡ 0)
+unfolding gateRowsAnswer
+gates-number q r a = (λ z. go z (ℕ-discrete (planFault q) 0), λ e. ap (λ (g : GateRows). g .number) a ∙ rw (eq-eqb (planFault q) 0 e))
+  where
+    go : r .number ≡ 0 → Dec (planFault q ≡ 0) → planFault q ≡ 0
+    go z (yes e) = e
+    go z (no d) =
+        let n : r .number ≡ 19 = ap (λ (g : GateRows). g .number) a ∙ rw (ne-eqb (planFault q) 0 d) in
+        absurd (omega (arith, n, z))
 
 -- so that the test of rows is the plan's
 pub gates-fault : (q : Plan) (r : GateRows) → GatesOf q r → (N count : ℕ) (ts : List Read) → rowsFault (toldBy r) N count ts ≡ rowsFault (gatesOf (settingOf q)) N count ts

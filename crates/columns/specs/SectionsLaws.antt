@@ -11,12 +11,11 @@ use native.Mathlib.Decide.{ℕ-discrete}
 use native.Mathlib.Omega.{arith}
 use lib.ListN.{length, drop, set, replicate, length-append, length-set}
 use lib.Dec.{ltb, eqb}
-use borrow.Author.Tests.{eq-eqb, le-leb, eqb-true}
+use borrow.Author.Tests.{eq-eqb, le-leb}
 use Rattle.base.specs.Firsts.{orNumber, first-none, first-found, first-zero}
 use Rattle.base.specs.Pick.{pick, pick-zero}
 use Rattle.base.specs.Tables.{table-length}
 use Rattle.labels.specs.Labels.{representativesOf, labelOf}
-use Rattle.tree.specs.Plan.{planFault}
 use Rattle.tree.specs.declared.plan.Plan.{Plan}
 use Rattle.pieces.specs.Setting.{Setting, State, Store, Held, Cols, constantRoom, copyRoom, scratchRoom, tableRoom, specialRoom, mostTables, isOpened, countsFit, stands}
 use Rattle.pieces.specs.Records.{Read, rowsOf, tablesOf}
@@ -365,10 +364,7 @@ last-same x r s c t a e f g u =
     let z : 0 + length c ≡ length c = omega arith in
     rw (e, f, g, u, y, z)
 
--- what an accepted opening says of the code's plan
-pub opened-fine : (q : Plan) (b : Store) → openNumber (settingOf q) b ≡ 0 → planFault q ≡ 0
-opened-fine q b e = eqb-true (planFault q) 0 (opened-sound (settingOf q) b e)
-
+-- the labels of the code's plan fill its copy columns
 pub labels-long : (q : Plan) → length (settingOf q .labels) ≡ copyRoom (settingOf q)
 labels-long q = table-length (q .copy * q .trace) (labelOf (q .trace) (representativesOf (q .trace) (q .copy)))
 

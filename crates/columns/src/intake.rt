@@ -175,12 +175,19 @@ impl Intake {
         ensures { λ r. ⌜ r ≡ rowsAnswer self (now (piece .entry)) (now (constants .entry)) ⌝ }
         ensures { λ _. ⌜ now (constants .exit) ≡ rowsLeft self (now (piece .entry)) (now (constants .entry)) ⌝ }
     {
-        if self.stands() {
-            let plan = self.plan;
+        let plan = self.plan;
+        // its number is the plan's test, which is not made a second time
+        let gates = plan.gate_rows();
+        if gates.number != 0 {
+            return refused(19, self);
+        }
+        if self.phase != OPEN {
+            return refused(19, self);
+        }
+        if self.counts_fit() {
             if constants.len() < rooms_of(plan).constants {
                 return refused(10, self);
             }
-            let gates = plan.gate_rows();
             let own = gates.own;
             let mut used = self.used;
             let tested = test_rows(gates.many, &own, plan.trace, self.rows, piece, &mut used);
