@@ -20,7 +20,7 @@ use Rattle.parameters.specs.declared.parameters.Parameters.{Parameters}
 use Rattle.tree.specs.Plan.{zeroPlan, wordsNumber, planNumber, planAnswer}
 use Rattle.tree.specs.declared.plan.Plan.{Plan}
 use Rattle.tree.specs.declared.planning.Planned.{Planned}
-use Rattle.pieces.specs.Setting.{Setting, Store, stands}
+use Rattle.pieces.specs.Setting.{Setting, Store, countsFit, stands}
 use Rattle.pieces.specs.Records.{readBy, rowsOf, firstFault, allBelow}
 use Rattle.pieces.specs.Opening.{roomToOpen, openNumber, openStore, fresh}
 use Rattle.pieces.specs.Rows.{rowFault, rowsNumber}
@@ -90,11 +90,11 @@ number₉ c =
     ∙ ap (λ (q : Plan). number (settingOf q) c (fresh x₉ (old 1 5 3))) (sym known₉) ∙ ap (λ (y : Setting). number y c (fresh x₉ (old 1 5 3))) setting₉
 
 unlisted₉ : number x₉ (rows (1 ∷ 0 ∷ [])) (fresh x₉ (old 1 5 3)) ≡ 12
-unfolding lone old constantsOf pathTo wanted stands readBy rowsOf firstFault allBelow rowFault rowsNumber number
+unfolding lone old constantsOf pathTo wanted stands countsFit readBy rowsOf firstFault allBelow rowFault rowsNumber number
 unlisted₉ = refl
 
 both-rows₉ : number x₉ (rows (0 ∷ 0 ∷ 0 ∷ 0 ∷ [])) (fresh x₉ (old 1 5 3)) ≡ 0
-unfolding lone old constantsOf pathTo wanted stands readBy rowsOf firstFault allBelow rowFault rowsNumber number
+unfolding lone old constantsOf pathTo wanted stands countsFit readBy rowsOf firstFault allBelow rowFault rowsNumber number
 both-rows₉ = refl
 
 unlisted : number (settingOf (k₉ .state .plan)) (rows (1 ∷ 0 ∷ [])) (heldOf k₉) ≡ 12

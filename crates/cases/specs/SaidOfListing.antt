@@ -17,7 +17,7 @@ use Rattle.labels.specs.Numerals.{worked-labels}
 use Rattle.selector.specs.Gates.{constantsOf}
 use Rattle.selector.specs.MadeUp.{wanted}
 use Rattle.selector.specs.Paths.{pathTo, pathOf}
-use Rattle.pieces.specs.Setting.{Setting, stands}
+use Rattle.pieces.specs.Setting.{Setting, countsFit, stands}
 use Rattle.pieces.specs.Records.{Read, whole, cut, readBy, rowsOf, tablesOf, firstFault, allBelow}
 use Rattle.pieces.specs.Writing.{put, padded, putLines}
 use Rattle.pieces.specs.Opening.{roomToOpen, openNumber, fresh}
@@ -64,7 +64,7 @@ opens₈ = refl
 
 -- by the sections' rules the finishing is accepted, and the circuit and the words left are these
 runs₈ : FinishesBy x₈ calls₈ (fresh x₈ lent) × (circuitBy x₈ calls₈ (fresh x₈ lent) ≡ circuit₈) × (run x₈ calls₈ (fresh x₈ lent) .store ≡ left)
-unfolding plan tree lent exponentFrom constantsOf pathTo wanted orNumber stands readBy rowsOf firstFault allBelow put padded putLines rowFault rowsNumber rowLines rowsWritten marked sWordFault sWordsNumber sWordsWritten cellFault cellsNumber roomForCells firstSeen seenAgain placeCell cellsRun tablesOf tableFault tablesNumber tablesWritten tableLines entries sumRows everyFrom complete allUsed variableFine scratchFine finishNumber writeBack finishFrom number taken after circuitBy left run
+unfolding plan tree lent exponentFrom constantsOf pathTo wanted orNumber stands countsFit readBy rowsOf firstFault allBelow put padded putLines rowFault rowsNumber rowLines rowsWritten marked sWordFault sWordsNumber sWordsWritten cellFault cellsNumber roomForCells firstSeen seenAgain placeCell cellsRun tablesOf tableFault tablesNumber tablesWritten tableLines entries sumRows everyFrom complete allUsed variableFine scratchFine finishNumber writeBack finishFrom number taken after circuitBy left run
 runs₈ = (inr (inr (inr (inr (inl (refl, refl))))), refl, refl)
 
 pub found₈ : searchNumber (plan .trace) (plan .copy) ≡ 0

@@ -29,7 +29,7 @@ use Rattle.selector.specs.Paths.{pathTo, pathOf}
 use Rattle.parameters.specs.declared.parameters.Parameters.{Parameters}
 use Rattle.tree.specs.Plan.{wordsNumber, planNumber, planned, planPath}
 use Rattle.tree.specs.declared.plan.Plan.{Plan}
-use Rattle.pieces.specs.Setting.{Setting, Store, cols, copyRoom, stands}
+use Rattle.pieces.specs.Setting.{Setting, Store, cols, copyRoom, countsFit, stands}
 use Rattle.pieces.specs.Records.{Read, whole, cut, readBy, rowsOf, tablesOf, firstFault, allBelow}
 use Rattle.pieces.specs.Writing.{put, padded, putLines}
 use Rattle.pieces.specs.Opening.{roomToOpen, openNumber, fresh}
@@ -123,12 +123,12 @@ opensₗ w = refl
 
 -- by the sections' rules the finishing is accepted, and the circuit is this one
 runsₗ : FinishesBy xₗ callsₗ (fresh xₗ (before-hand 9)) × (circuitBy xₗ callsₗ (fresh xₗ (before-hand 9)) ≡ circuitₗ)
-unfolding planₗ tree before-hand table constantsOf pathTo wanted orNumber stands readBy rowsOf firstFault allBelow put padded putLines rowFault rowsNumber rowLines rowsWritten marked sWordFault sWordsNumber sWordsWritten cellFault cellsNumber roomForCells firstSeen seenAgain placeCell cellsRun tablesOf tableFault tablesNumber tablesWritten tableLines entries sumRows everyFrom complete allUsed variableFine scratchFine finishNumber writeBack finishFrom number taken after circuitBy
+unfolding planₗ tree before-hand table constantsOf pathTo wanted orNumber stands countsFit readBy rowsOf firstFault allBelow put padded putLines rowFault rowsNumber rowLines rowsWritten marked sWordFault sWordsNumber sWordsWritten cellFault cellsNumber roomForCells firstSeen seenAgain placeCell cellsRun tablesOf tableFault tablesNumber tablesWritten tableLines entries sumRows everyFrom complete allUsed variableFine scratchFine finishNumber writeBack finishFrom number taken after circuitBy
 runsₗ = (inr (inr (inr (inr (inl (refl, refl))))), refl)
 
 -- so it is for the list cut in another way
 runs-cut : FinishesBy xₗ cutₗ (fresh xₗ (before-hand 8)) × (circuitBy xₗ cutₗ (fresh xₗ (before-hand 8)) ≡ circuitₗ)
-unfolding planₗ tree before-hand table constantsOf pathTo wanted orNumber stands readBy rowsOf firstFault allBelow put padded putLines rowFault rowsNumber rowLines rowsWritten marked sWordFault sWordsNumber sWordsWritten cellFault cellsNumber roomForCells firstSeen seenAgain placeCell cellsRun tablesOf tableFault tablesNumber tablesWritten tableLines entries sumRows everyFrom complete allUsed variableFine scratchFine finishNumber writeBack finishFrom number taken after circuitBy
+unfolding planₗ tree before-hand table constantsOf pathTo wanted orNumber stands countsFit readBy rowsOf firstFault allBelow put padded putLines rowFault rowsNumber rowLines rowsWritten marked sWordFault sWordsNumber sWordsWritten cellFault cellsNumber roomForCells firstSeen seenAgain placeCell cellsRun tablesOf tableFault tablesNumber tablesWritten tableLines entries sumRows everyFrom complete allUsed variableFine scratchFine finishNumber writeBack finishFrom number taken after circuitBy
 runs-cut = (inr (inr (inr (inr (inr (inr (inr (inr (inr (inr (inr (inl (refl, refl)))))))))))), refl)
 
 abbrev constantsₗ : List ℕ
@@ -141,7 +141,7 @@ abbrev leftₗ : Store
 leftₗ = record { constants = constantsₗ; cells = run xₗ callsₗ (fresh xₗ (before-hand 9)) .store .cells; tables = columnsₗ }
 
 left-knownₗ : run xₗ callsₗ (fresh xₗ (before-hand 9)) .store ≡ leftₗ
-unfolding planₗ tree before-hand table constantsOf pathTo wanted orNumber stands readBy rowsOf firstFault allBelow put padded putLines rowFault rowsNumber rowLines rowsWritten marked sWordFault sWordsNumber sWordsWritten cellFault cellsNumber roomForCells firstSeen seenAgain placeCell cellsRun tablesOf tableFault tablesNumber tablesWritten tableLines entries sumRows everyFrom complete allUsed variableFine scratchFine finishNumber writeBack finishFrom number taken after run
+unfolding planₗ tree before-hand table constantsOf pathTo wanted orNumber stands countsFit readBy rowsOf firstFault allBelow put padded putLines rowFault rowsNumber rowLines rowsWritten marked sWordFault sWordsNumber sWordsWritten cellFault cellsNumber roomForCells firstSeen seenAgain placeCell cellsRun tablesOf tableFault tablesNumber tablesWritten tableLines entries sumRows everyFrom complete allUsed variableFine scratchFine finishNumber writeBack finishFrom number taken after run
 left-knownₗ = refl
 
 -- the claim, at this circuit
@@ -250,7 +250,7 @@ cut-tables = sym (sameₗ .tables)
 -- P9's two lists, over other buffers
 -- by the sections' rules both finishings are accepted, and the circuits are the same
 runs₉ : FinishesBy x₉ p9-calls (fresh x₉ (old 1 5 3)) × FinishesBy x₉ p9-refused (fresh x₉ (old 1 4 2)) × (circuitBy x₉ p9-calls (fresh x₉ (old 1 5 3)) ≡ circuitBy x₉ p9-refused (fresh x₉ (old 1 4 2)))
-unfolding lone old constantsOf pathTo wanted orNumber stands readBy rowsOf firstFault allBelow put padded putLines rowFault rowsNumber rowLines rowsWritten marked sWordFault sWordsNumber sWordsWritten cellFault cellsNumber roomForCells firstSeen seenAgain placeCell cellsRun tablesOf tableFault tablesNumber tablesWritten tableLines entries sumRows everyFrom complete allUsed variableFine scratchFine finishNumber writeBack finishFrom number taken after circuitBy
+unfolding lone old constantsOf pathTo wanted orNumber stands countsFit readBy rowsOf firstFault allBelow put padded putLines rowFault rowsNumber rowLines rowsWritten marked sWordFault sWordsNumber sWordsWritten cellFault cellsNumber roomForCells firstSeen seenAgain placeCell cellsRun tablesOf tableFault tablesNumber tablesWritten tableLines entries sumRows everyFrom complete allUsed variableFine scratchFine finishNumber writeBack finishFrom number taken after circuitBy
 runs₉ = (inr (inr (inl (refl, refl))), inr (inr (inr (inr (inr (inl (refl, refl)))))), refl)
 
 opens-among : openNumber x₉ (old 1 4 2) ≡ 0
@@ -331,7 +331,7 @@ opens-9 = refl
 
 -- by the sections' rules the finishing is accepted, and the circuit is P8's
 runs-9 : FinishesBy x₈ calls₈ (fresh x₈ (lentWith 9)) × (circuitBy x₈ calls₈ (fresh x₈ (lentWith 9)) ≡ circuit₈)
-unfolding plan tree lentWith exponentFrom constantsOf pathTo wanted orNumber stands readBy rowsOf firstFault allBelow put padded putLines rowFault rowsNumber rowLines rowsWritten marked sWordFault sWordsNumber sWordsWritten cellFault cellsNumber roomForCells firstSeen seenAgain placeCell cellsRun tablesOf tableFault tablesNumber tablesWritten tableLines entries sumRows everyFrom complete allUsed variableFine scratchFine finishNumber writeBack finishFrom number taken after circuitBy
+unfolding plan tree lentWith exponentFrom constantsOf pathTo wanted orNumber stands countsFit readBy rowsOf firstFault allBelow put padded putLines rowFault rowsNumber rowLines rowsWritten marked sWordFault sWordsNumber sWordsWritten cellFault cellsNumber roomForCells firstSeen seenAgain placeCell cellsRun tablesOf tableFault tablesNumber tablesWritten tableLines entries sumRows everyFrom complete allUsed variableFine scratchFine finishNumber writeBack finishFrom number taken after circuitBy
 runs-9 = (inr (inr (inr (inr (inl (refl, refl))))), refl)
 
 laid₈ : kept parameters gates (lentWith 9) calls₈ .store ≡ storeOf (1 ∷ 0 ∷ 5 ∷ 0 ∷ 9 ∷ []) (1 ∷ 7 ∷ (p - 1) ∷ (p - 7) ∷ 9 ∷ []) (1 ∷ 0 ∷ 7 ∷ 1 ∷ 9 ∷ []) (9 ∷ [])

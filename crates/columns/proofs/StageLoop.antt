@@ -13,7 +13,7 @@ use Rattle.base.specs.Drops.{drop-none}
 use Rattle.pieces.specs.Records.{Read, whole, cut, rowSize, readBy, rowsOf}
 use Rattle.pieces.specs.Writing.{put, padded, putLines}
 use Rattle.pieces.specs.WriteLaws.{padded-length}
-use Rattle.pieces.specs.Rows.{rowFault, rowsFault, rowLines}
+use Rattle.pieces.specs.Rows.{Gates, rowFault, rowsFault, rowLines}
 use Rattle.pieces.specs.RecordLaws.{Rest, Going, rest-begin, rest-whole, read-fuel, fault-head, going}
 use Rattle.pieces.specs.FaultLaws.{row-cut, row-fine, rows-room}
 use Rattle.pieces.specs.ClosedForms.{lines-append, lines-many}
@@ -65,10 +65,10 @@ cut-more w d (suc n) b ws h l room =
     rw (z, p, put-past d b (d * n) ws) (ap (λ (ls : List (List ℕ)). padded w b ∷ ls) (cut-more w d n (drop d b) ws h l (omega (arith, length-drop d b))))
 
 -- ---- records after some: they have no fault either
-rows-later : (many : ℕ) (own : ℕ → ℕ) (N r : ℕ) (xs ys : List Read) → rowsFault many own N r (xs ++ ys) ≡ 0 → rowsFault many own N (r + length xs) ys ≡ 0
-rows-later many own N r [] ys e = rw add-zero e
-rows-later many own N r (x ∷ xs) ys e =
-    rw (add-suc, ← suc-add) (rows-later many own N (suc r) xs ys (fault-head (rowFault many own N) (λ r _. suc r) r x (xs ++ ys) e .1))
+rows-later : (gs : Gates) (N r : ℕ) (xs ys : List Read) → rowsFault gs N r (xs ++ ys) ≡ 0 → rowsFault gs N (r + length xs) ys ≡ 0
+rows-later gs N r [] ys e = rw add-zero e
+rows-later gs N r (x ∷ xs) ys e =
+    rw (add-suc, ← suc-add) (rows-later gs N (suc r) xs ys (fault-head (rowFault gs N) (λ r _. suc r) r x (xs ++ ys) e .1))
 
 -- those that a loop has still to read are those of the words that are left
 rest-rows : (ws : List ℕ) (i : ℕ) (rs : List Read) → Rest rowSize ws i rs → rs ≡ rowsOf (drop i ws)
@@ -88,7 +88,7 @@ module _ (height : ℕ) (bits steps piece : List ℕ) where
     pub split : rowsOf piece ≡ read ++ left
     pub rows-are : length read ≡ rows
     pub long : length stage ≡ 2048
-    pub lines : (many : ℕ) (own : ℕ → ℕ) (trace count : ℕ) (path : ℕ → List ℕ) → rowsFault many own trace count (rowsOf piece) ≡ 0 → Spells many path bits steps
+    pub lines : (gs : Gates) (trace count : ℕ) (path : ℕ → List ℕ) → rowsFault gs trace count (rowsOf piece) ≡ 0 → Spells (gs .many) path bits steps
         → cutLines height 64 rows stage ≡ map (padded height) (rowLines path read)
 
   pub staging-begin : (stage : List ℕ) → length stage ≡ 2048 → Staging stage 0 0
@@ -105,7 +105,7 @@ module _ (height : ℕ) (bits steps piece : List ℕ) where
         split = refl;
         rows-are = refl;
         long = long;
-        lines = λ many own trace count path e s. refl;
+        lines = λ gs trace count path e s. refl;
       }
 
   -- what is known of the record at the front
@@ -116,18 +116,17 @@ module _ (height : ℕ) (bits steps piece : List ℕ) where
     pub room : getD steps (getD piece i 0) 0 + getD piece (i + 1) 0 ≤ height
 
   module _ (stage : List ℕ) (rows i : ℕ) (v : Staging stage rows i) where
-    ahead : (many : ℕ) (own : ℕ → ℕ) (trace count : ℕ) → rowsFault many own trace count (rowsOf piece) ≡ 0 → i < length piece
-        → Going rowSize (rowFault many own trace) (λ r _. suc r) piece (count + length (v .read)) i (v .left)
-    ahead many own trace count e h =
+    ahead : (gs : Gates) (trace count : ℕ) → rowsFault gs trace count (rowsOf piece) ≡ 0 → i < length piece
+        → Going rowSize (rowFault gs trace) (λ r _. suc r) piece (count + length (v .read)) i (v .left)
+    ahead gs trace count e h =
         let r = count + length (v .read) in
-        let bad : rowFault many own trace r cut ≢ 0 = λ z. omega (arith, z, row-cut many own trace r) in
-        going rowSize (rowFault many own trace) (λ r _. suc r) piece r i (v .left) (v .rest) bad (rows-later many own trace count (v .read) (v .left) (ap (rowsFault many own trace count) (sym (v .split)) ∙ e)) h
+        let bad : rowFault gs trace r cut ≢ 0 = λ z. omega (arith, z, row-cut gs trace r) in
+        going rowSize (rowFault gs trace) (λ r _. suc r) piece r i (v .left) (v .rest) bad (rows-later gs trace count (v .read) (v .left) (ap (rowsFault gs trace count) (sym (v .split)) ∙ e)) h
 
     pub staging-front : Stageable height steps piece → i < length piece → Front i
     staging-front q h =
-        let own : ℕ → ℕ = λ (g : ℕ). getD (q .own) g 0 in
-        let g = ahead (q .many) own (q .trace) (q .count) (q .no-fault) h in
-        let f = row-fine (q .many) own (q .trace) (q .count + length (v .read)) (getD piece i 0) (getD piece (i + 1) 0) _ (g .good) in
+        let g = ahead (q .gates) (q .trace) (q .count) (q .no-fault) h in
+        let f = row-fine (q .gates) (q .trace) (q .count + length (v .read)) (getD piece i 0) (getD piece (i + 1) 0) _ (g .good) in
         record { two = g .two; fits = g .fits; known = omega (arith, f .known, q .few); room = omega (arith, f .few, q .room .fits (getD piece i 0) (f .known)) }
 
     module _ (t : Front i) (low : rows < 32) (stage' : List ℕ) (long' : length stage' ≡ 2048) where
@@ -159,15 +158,15 @@ module _ (height : ℕ) (bits steps piece : List ℕ) where
             lines = line;
           }
         where
-          line : (many : ℕ) (own : ℕ → ℕ) (trace count : ℕ) (path : ℕ → List ℕ) → rowsFault many own trace count (rowsOf piece) ≡ 0 → Spells many path bits steps
+          line : (gs : Gates) (trace count : ℕ) (path : ℕ → List ℕ) → rowsFault gs trace count (rowsOf piece) ≡ 0 → Spells (gs .many) path bits steps
               → cutLines height 64 (rows + 1) stage' ≡ map (padded height) (rowLines path (v .read ++ (whole g n cs ∷ [])))
-          line many own trace count path e s =
-              let a = ahead many own trace count e (omega (arith, t .two)) in
-              let known = row-fine many own trace (count + length (v .read)) g n cs (a .good) .known in
+          line gs trace count path e s =
+              let a = ahead gs trace count e (omega (arith, t .two)) in
+              let known = row-fine gs trace (count + length (v .read)) g n cs (a .good) .known in
               let l = padded height (path g ++ cs) in
               let w : stage' ≡ put 1 stage (64 * rows) l = wrote (path g) (s .spells g known) in
               let room : 64 * rows + height ≤ length stage = omega (arith, v .long) in
-              rw (add-one rows, w, cut-more height 64 rows stage l short (padded-length height (path g ++ cs)) room, v .lines many own trace count path e s, lines-append path (v .read) (whole g n cs ∷ []))
+              rw (add-one rows, w, cut-more height 64 rows stage l short (padded-length height (path g ++ cs)) room, v .lines gs trace count path e s, lines-append path (v .read) (whole g n cs ∷ []))
               (sym (map-append (padded height) (rowLines path (v .read)) (rowLines path (whole g n cs ∷ []))))
 
     pub staging-done : (32 ≤ rows) ⊎ (length piece ≤ i) → Stages height bits steps piece stage i rows
@@ -191,25 +190,25 @@ module _ (height : ℕ) (bits steps piece : List ℕ) where
             go (suc r) e = omega arith
 
 -- ---- writing what is staged
-rows-in : (many : ℕ) (own : ℕ → ℕ) (N r : ℕ) (xs ys : List Read) → rowsFault many own N r (xs ++ ys) ≡ 0 → 0 < length xs → r + length xs ≤ N
-rows-in many own N r [] ys e h = absurd (not-suc-le-zero h)
-rows-in many own N r (cut ∷ xs) ys e h = absurd (omega (arith, fault-head (rowFault many own N) (λ r _. suc r) r cut (xs ++ ys) e .0, row-cut many own N r))
-rows-in many own N r (whole g n cs ∷ xs) ys e h =
-    let f = fault-head (rowFault many own N) (λ r _. suc r) r (whole g n cs) (xs ++ ys) e in
-    let room = row-fine many own N r g n cs (f .0) .room in
-    omega (arith, rows-room many own N r (whole g n cs ∷ xs ++ ys) (omega (arith, room)) e, length-append xs ys)
+rows-in : (gs : Gates) (N r : ℕ) (xs ys : List Read) → rowsFault gs N r (xs ++ ys) ≡ 0 → 0 < length xs → r + length xs ≤ N
+rows-in gs N r [] ys e h = absurd (not-suc-le-zero h)
+rows-in gs N r (cut ∷ xs) ys e h = absurd (omega (arith, fault-head (rowFault gs N) (λ r _. suc r) r cut (xs ++ ys) e .0, row-cut gs N r))
+rows-in gs N r (whole g n cs ∷ xs) ys e h =
+    let f = fault-head (rowFault gs N) (λ r _. suc r) r (whole g n cs) (xs ++ ys) e in
+    let room = row-fine gs N r g n cs (f .0) .room in
+    omega (arith, rows-room gs N r (whole g n cs ∷ xs ++ ys) (omega (arith, room)) e, length-append xs ys)
 
 module _ (height trace count : ℕ) (piece constants₀ bits steps : List ℕ) where
   pub record Writing (constants stage : List ℕ) (row i : ℕ) : Type 0 where
     pub within : i ≤ length piece
     pub long : length constants ≡ length constants₀
     pub staged : length stage ≡ 2048
-    pub fine : (many : ℕ) (own : ℕ → ℕ) → rowsFault many own trace count (rowsOf piece) ≡ 0 → rowsFault many own trace row (rowsOf (drop i piece)) ≡ 0
-    pub lines : (many : ℕ) (own : ℕ → ℕ) (path : ℕ → List ℕ) → rowsFault many own trace count (rowsOf piece) ≡ 0 → Spells many path bits steps
+    pub fine : (gs : Gates) → rowsFault gs trace count (rowsOf piece) ≡ 0 → rowsFault gs trace row (rowsOf (drop i piece)) ≡ 0
+    pub lines : (gs : Gates) (path : ℕ → List ℕ) → rowsFault gs trace count (rowsOf piece) ≡ 0 → Spells (gs .many) path bits steps
         → putLines height trace count (rowLines path (rowsOf piece)) constants₀ ≡ putLines height trace row (rowLines path (rowsOf (drop i piece))) constants
 
   pub writing-begin : (stage : List ℕ) → length stage ≡ 2048 → Writing constants₀ stage count 0
-  writing-begin stage room = record { within = omega arith; long = refl; staged = room; fine = λ many own e. e; lines = λ many own path e s. refl }
+  writing-begin stage room = record { within = omega arith; long = refl; staged = room; fine = λ gs e. e; lines = λ gs path e s. refl }
 
   module _ (constants stage : List ℕ) (row i : ℕ) (v : Writing constants stage row i) where
     module _ (stage' : List ℕ) (next rows : ℕ) (p : Stages height bits steps (drop i piece) stage' next rows) where
@@ -221,10 +220,10 @@ module _ (height trace count : ℕ) (piece constants₀ bits steps : List ℕ) w
       split = p .split ∙ ap (λ (ws : List ℕ). p .read ++ rowsOf ws) (drop-drop next i piece)
 
       -- the rows are in the trace
-      pub writing-room : (many : ℕ) (own : ℕ → ℕ) → rowsFault many own trace count (rowsOf piece) ≡ 0 → i < length piece → row + rows ≤ trace
-      writing-room many own e h =
+      pub writing-room : (gs : Gates) → rowsFault gs trace count (rowsOf piece) ≡ 0 → i < length piece → row + rows ≤ trace
+      writing-room gs e h =
           let some = p .some (omega (arith, length-drop i piece)) .1 in
-          rw (p .rows-are) at (rows-in many own trace row (p .read) later (ap (rowsFault many own trace row) (sym split) ∙ v .fine many own e) (omega (arith, some, p .rows-are)))
+          rw (p .rows-are) at (rows-in gs trace row (p .read) later (ap (rowsFault gs trace row) (sym split) ∙ v .fine gs e) (omega (arith, some, p .rows-are)))
 
       pub writing-next : (constants' : List ℕ) → length constants' ≡ length constants → constants' ≡ putLines height trace row (cutLines height 64 rows stage') constants
           → Writing constants' stage' (row + rows) (i + next)
@@ -234,24 +233,24 @@ module _ (height trace count : ℕ) (piece constants₀ bits steps : List ℕ) w
             within = omega (arith, p .within, length-drop i piece, v .within);
             long = long' ∙ v .long;
             staged = p .long;
-            fine = λ many own e. rw (p .rows-are) at (rows-later many own trace row (p .read) later (ap (rowsFault many own trace row) (sym split) ∙ v .fine many own e));
+            fine = λ gs e. rw (p .rows-are) at (rows-later gs trace row (p .read) later (ap (rowsFault gs trace row) (sym split) ∙ v .fine gs e));
             lines = line;
           }
         where
-          line : (many : ℕ) (own : ℕ → ℕ) (path : ℕ → List ℕ) → rowsFault many own trace count (rowsOf piece) ≡ 0 → Spells many path bits steps
+          line : (gs : Gates) (path : ℕ → List ℕ) → rowsFault gs trace count (rowsOf piece) ≡ 0 → Spells (gs .many) path bits steps
               → putLines height trace count (rowLines path (rowsOf piece)) constants₀ ≡ putLines height trace (row + rows) (rowLines path later) constants'
-          line many own path e s =
+          line gs path e s =
               let ls = rowLines path (p .read) in
               let is : constants' ≡ putLines height trace row ls constants =
-              wrote ∙ ap (λ (l : List (List ℕ)). putLines height trace row l constants) (p .lines many own trace row path (v .fine many own e) s) ∙ sym (lines-padded height trace row ls constants) in
+              wrote ∙ ap (λ (l : List (List ℕ)). putLines height trace row l constants) (p .lines gs trace row path (v .fine gs e) s) ∙ sym (lines-padded height trace row ls constants) in
               let many-are : length ls ≡ rows = lines-many path (p .read) ∙ p .rows-are in
-              v .lines many own path e s ∙ ap (λ (l : List Read). putLines height trace row (rowLines path l) constants) split
+              v .lines gs path e s ∙ ap (λ (l : List Read). putLines height trace row (rowLines path l) constants) split
               ∙ ap (λ (l : List (List ℕ)). putLines height trace row l constants) (lines-append path (p .read) later)
               ∙ lines-through height trace row ls (rowLines path later) constants
               ∙ rw (many-are, is)
 
-    pub writing-lines : length piece ≤ i → (many : ℕ) (own : ℕ → ℕ) (path : ℕ → List ℕ) → rowsFault many own trace count (rowsOf piece) ≡ 0 → Spells many path bits steps
+    pub writing-lines : length piece ≤ i → (gs : Gates) (path : ℕ → List ℕ) → rowsFault gs trace count (rowsOf piece) ≡ 0 → Spells (gs .many) path bits steps
         → constants ≡ putLines height trace count (rowLines path (rowsOf piece)) constants₀
     unfolding rowsOf readBy
-    writing-lines h many own path e s =
-        sym (v .lines many own path e s ∙ ap (λ (ws : List ℕ). putLines height trace row (rowLines path (rowsOf ws)) constants) (drop-none piece i h) ∙ rows-done path height trace row constants)
+    writing-lines h gs path e s =
+        sym (v .lines gs path e s ∙ ap (λ (ws : List ℕ). putLines height trace row (rowLines path (rowsOf ws)) constants) (drop-none piece i h) ∙ rows-done path height trace row constants)

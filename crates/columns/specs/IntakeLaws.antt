@@ -13,10 +13,10 @@ use borrow.Author.Tests.{eq-eqb, ne-eqb, eqb-true, le-leb, lt-leb, leb-true}
 use Rattle.base.specs.Pick.{pick, both, pick-yes, pick-no, both-true}
 use Rattle.tree.specs.Plan.{planFault}
 use Rattle.tree.specs.declared.plan.Plan.{Plan}
-use Rattle.pieces.specs.Setting.{Setting, State, Store, Cols, stands, constantRoom, copyRoom, scratchRoom, tableRoom, specialRoom}
+use Rattle.pieces.specs.Setting.{Setting, State, Store, Cols, countsFit, stands, isOpened, constantRoom, copyRoom, scratchRoom, tableRoom, specialRoom}
 use Rattle.pieces.specs.Records.{rowsOf, tablesOf}
 use Rattle.pieces.specs.Opening.{roomToOpen, openNumber, openStore, openState}
-use Rattle.pieces.specs.Rows.{rowsFault, rowsNumber, rowsWritten, rowsState}
+use Rattle.pieces.specs.Rows.{gatesOf, rowsFault, rowsNumber, rowsWritten, rowsState}
 use Rattle.pieces.specs.SWords.{sWordsFault, sWordsNumber, sWordsWritten, sWordsState}
 use Rattle.pieces.specs.Cells.{cellsFault, cellsNumber, roomForCells, cellsWritten, cellsState}
 use Rattle.pieces.specs.Tables.{tablesFault, tablesNumber, tablesWritten, tablesState, stackOf}
@@ -29,6 +29,21 @@ use Rattle.columns.specs.declared.intake.Taken.{Taken}
 -- a state that stands has a plan without a fault
 pub plan-fine : (s : Intake) → stands (settingOf (s .plan)) (stateOf s) ≡ true → planFault (s .plan) ≡ 0
 plan-fine s e = eqb-true (planFault (s .plan)) 0 (stood (settingOf (s .plan)) (stateOf s) e .sound-plan)
+
+-- the three tests of a state: its plan, its phase, its counts
+module _ (s : Intake) where
+  pub falls-plan : planFault (s .plan) ≢ 0 → stands (settingOf (s .plan)) (stateOf s) ≡ false
+  unfolding stands
+  falls-plan d = rw (ne-eqb (planFault (s .plan)) 0 d)
+
+  module _ (e : planFault (s .plan) ≡ 0) where
+    pub falls-phase : s .phase ≢ isOpened → stands (settingOf (s .plan)) (stateOf s) ≡ false
+    unfolding stands
+    falls-phase d = rw (eq-eqb (planFault (s .plan)) 0 e, ne-eqb (s .phase) isOpened d)
+
+    pub stands-counts : s .phase ≡ isOpened → stands (settingOf (s .plan)) (stateOf s) ≡ countsFit (settingOf (s .plan)) (stateOf s)
+    unfolding stands
+    stands-counts o = rw (eq-eqb (planFault (s .plan)) 0 e, eq-eqb (s .phase) isOpened o)
 
 -- ---- an answer, by its number
 refused-answer : (n : ℕ) (s : Intake) (t : State) → n ≢ 0 → refusedWith n s ≡ answered n s t
@@ -60,7 +75,7 @@ module _ (s : Intake) (ws : List ℕ) where
     unfolding rowsNumber
     rows-10 e h = rw (e, lt-leb (constantRoom x) (length b) h)
 
-    pub rows-own : stands x st ≡ true → constantRoom x ≤ length b → rowsNumber x st ws b ≡ rowsFault (x .gates) (x .own) (x .trace) (st .rowCount) (rowsOf ws)
+    pub rows-own : stands x st ≡ true → constantRoom x ≤ length b → rowsNumber x st ws b ≡ rowsFault (gatesOf x) (x .trace) (st .rowCount) (rowsOf ws)
     unfolding rowsNumber
     rows-own e h = rw (e, le-leb (constantRoom x) (length b) h)
 

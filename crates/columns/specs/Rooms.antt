@@ -4,7 +4,7 @@
 use mathlib.Core.Path.{_≡_}
 use Prim.Native.Nat.{_≤_}
 use Rattle.pieces.specs.Setting.{Setting, constantRoom, copyRoom, scratchRoom, tableRoom}
-use Rattle.columns.specs.declared.intake.Rooms.{Rooms}
+use Rattle.columns.specs.declared.rooms.Rooms.{Rooms}
 
 -- the named words of each buffer
 pub record RoomsOf (x : Setting) (r : Rooms) : Type 0 where

@@ -1,6 +1,6 @@
 -- 01, 'Listing': "as above in section order". The numbers of a whole circuit whose sections come as one piece each, told without a word written.
 --
--- Main definitions: `firstRefusal`, `sections`, `lastTests`, `finishTested`, `sectionsNumber`; `piecesFault`, `afterPieces`.
+-- Main definitions: `firstRefusal`, `sections`, `lastTests`, `finishTested`, `sectionsNumber`; `laterFault`, `piecesFault`, `afterPieces`.
 use mathlib.Core.List.{List, [], _∷_}
 use Prim.Native.Nat.{ℕ}
 use Rattle.base.specs.Firsts.{orNumber}
@@ -8,7 +8,7 @@ use Rattle.base.specs.Pick.{pick}
 use Rattle.pieces.specs.Setting.{Setting, State, Store, Held, copyRoom, specialRoom, stands}
 use Rattle.pieces.specs.Records.{rowsOf, tablesOf}
 use Rattle.pieces.specs.Opening.{openNumber, openState, fresh}
-use Rattle.pieces.specs.Rows.{rowsFault, rowsState}
+use Rattle.pieces.specs.Rows.{gatesOf, rowsFault, rowsState}
 use Rattle.pieces.specs.SWords.{sWordsFault, sWordsState}
 use Rattle.pieces.specs.Cells.{cellsFault, cellsState, roomForCells}
 use Rattle.pieces.specs.Tables.{stackOf, tablesFault, tablesState}
@@ -40,12 +40,15 @@ sectionsNumber x b r s c t =
     let last = finishTested x (run x calls (fresh x b)) in
     orNumber (openNumber x b) (orNumber given last)
 
--- the same without buffers, as the code tells it: the first fault of the four sections, each from its start on (`first-pieces`), and the state after them
+-- the same without buffers, as the code tells it: the first fault of the three sections after the rows and of all four, each from its start on (`first-pieces`),
+-- and the state after them
+abbrev pub laterFault : Setting → List ℕ → List ℕ → List ℕ → ℕ
+laterFault x s c t =
+    orNumber (sWordsFault (specialRoom x) 0 s)
+    (orNumber (cellsFault (copyRoom x) (x .variables) 0 c) (tablesFault (x .lookup) (x .width) (x .trace) (stackOf openState) (tablesOf t)))
+
 abbrev pub piecesFault : Setting → List ℕ → List ℕ → List ℕ → List ℕ → ℕ
-piecesFault x r s c t =
-    orNumber (rowsFault (x .gates) (x .own) (x .trace) 0 (rowsOf r))
-    (orNumber (sWordsFault (specialRoom x) 0 s)
-    (orNumber (cellsFault (copyRoom x) (x .variables) 0 c) (tablesFault (x .lookup) (x .width) (x .trace) (stackOf openState) (tablesOf t))))
+piecesFault x r s c t = orNumber (rowsFault (gatesOf x) (x .trace) 0 (rowsOf r)) (laterFault x s c t)
 
 abbrev pub afterPieces : List ℕ → List ℕ → List ℕ → List ℕ → State
 afterPieces r s c t = tablesState (cellsState (sWordsState (rowsState openState r) s) c) t

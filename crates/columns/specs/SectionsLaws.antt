@@ -11,18 +11,17 @@ use native.Mathlib.Decide.{ℕ-discrete}
 use native.Mathlib.Omega.{arith}
 use lib.ListN.{length, drop, set, replicate, length-append, length-set}
 use lib.Dec.{ltb, eqb}
-use borrow.Author.Tests.{eq-eqb, le-leb, eqb-true}
+use borrow.Author.Tests.{eq-eqb, le-leb}
 use Rattle.base.specs.Firsts.{orNumber, first-none, first-found, first-zero}
 use Rattle.base.specs.Pick.{pick, pick-zero}
 use Rattle.base.specs.Tables.{table-length}
 use Rattle.labels.specs.Labels.{representativesOf, labelOf}
-use Rattle.tree.specs.Plan.{planFault}
 use Rattle.tree.specs.declared.plan.Plan.{Plan}
-use Rattle.pieces.specs.Setting.{Setting, State, Store, Held, Cols, constantRoom, copyRoom, scratchRoom, tableRoom, specialRoom, mostTables, isOpened, stands}
+use Rattle.pieces.specs.Setting.{Setting, State, Store, Held, Cols, constantRoom, copyRoom, scratchRoom, tableRoom, specialRoom, mostTables, isOpened, countsFit, stands}
 use Rattle.pieces.specs.Records.{Read, rowsOf, tablesOf}
 use Rattle.base.specs.Limits.{mostGates}
 use Rattle.pieces.specs.Opening.{roomToOpen, openNumber, openState, fresh}
-use Rattle.pieces.specs.Rows.{rowLines, rowsFault, rowsNumber, rowsWritten, marked}
+use Rattle.pieces.specs.Rows.{gatesOf, rowLines, rowsFault, rowsNumber, rowsWritten, marked}
 use Rattle.pieces.specs.SWords.{sWordsFault, sWordsNumber, sWordsWritten}
 use Rattle.pieces.specs.Cells.{placeholder, indexOf, value, firstSeen, seenAgain, placeCell, cellsRun, cellsFault, cellsNumber, roomForCells}
 use Rattle.pieces.specs.Tables.{tableLines, tablesFault, tablesNumber, tablesWritten, stackOf, sumRows}
@@ -139,7 +138,7 @@ module _ (x : Setting) (h : Held) (k : Ready x h) where
   b = h .store
 
   ready-stands : stands x s ≡ true
-  unfolding stands
+  unfolding stands countsFit
   ready-stands =
       rw (
         k .sound-plan,
@@ -156,7 +155,7 @@ module _ (x : Setting) (h : Held) (k : Ready x h) where
   room-is = rw (le-leb (copyRoom x) (length (b .cells .copies)) (k .copies-long), le-leb (scratchRoom x) (length (b .cells .scratch)) (k .scratch-long))
 
   -- ---- the numbers
-  rows-number : (ws : List ℕ) → number x (rows ws) h ≡ rowsFault (x .gates) (x .own) (x .trace) (s .rowCount) (rowsOf ws)
+  rows-number : (ws : List ℕ) → number x (rows ws) h ≡ rowsFault (gatesOf x) (x .trace) (s .rowCount) (rowsOf ws)
   unfolding number rowsNumber
   rows-number ws = rw (ready-stands, le-leb (constantRoom x) (length (b .constants)) (k .constants-long))
 
@@ -177,13 +176,13 @@ module _ (x : Setting) (h : Held) (k : Ready x h) where
   last-number = rw (ready-stands, room-is)
 
   -- ---- each accepted call leaves the next one ready
-  rows-ready : (ws : List ℕ) → rowsFault (x .gates) (x .own) (x .trace) (s .rowCount) (rowsOf ws) ≡ 0 → Ready x (taken x (rows ws) h)
+  rows-ready : (ws : List ℕ) → rowsFault (gatesOf x) (x .trace) (s .rowCount) (rowsOf ws) ≡ 0 → Ready x (taken x (rows ws) h)
   unfolding taken rowsWritten
   rows-ready ws e =
       record {
         sound-plan = k .sound-plan;
         is-open = k .is-open;
-        rows-in = rows-room (x .gates) (x .own) (x .trace) (s .rowCount) (rowsOf ws) (k .rows-in) e;
+        rows-in = rows-room (gatesOf x) (x .trace) (s .rowCount) (rowsOf ws) (k .rows-in) e;
         words-in = k .words-in;
         cells-in = k .cells-in;
         tables-in = k .tables-in;
@@ -254,7 +253,7 @@ module _ (x : Setting) (h : Held) (k : Ready x h) where
 -- ---- the four sections, by their own numbers alone
 module _ (x : Setting) (b : Store) (r s c t : List ℕ) (k : Ready x (fresh x b)) where
   abbrev f₁ : ℕ
-  f₁ = rowsFault (x .gates) (x .own) (x .trace) 0 (rowsOf r)
+  f₁ = rowsFault (gatesOf x) (x .trace) 0 (rowsOf r)
 
   abbrev f₂ : ℕ
   f₂ = sWordsFault (specialRoom x) 0 s
@@ -365,10 +364,7 @@ last-same x r s c t a e f g u =
     let z : 0 + length c ≡ length c = omega arith in
     rw (e, f, g, u, y, z)
 
--- what an accepted opening says of the code's plan
-pub opened-fine : (q : Plan) (b : Store) → openNumber (settingOf q) b ≡ 0 → planFault q ≡ 0
-opened-fine q b e = eqb-true (planFault q) 0 (opened-sound (settingOf q) b e)
-
+-- the labels of the code's plan fill its copy columns
 pub labels-long : (q : Plan) → length (settingOf q .labels) ≡ copyRoom (settingOf q)
 labels-long q = table-length (q .copy * q .trace) (labelOf (q .trace) (representativesOf (q .trace) (q .copy)))
 

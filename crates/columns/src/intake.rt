@@ -1,13 +1,10 @@
 // The intake: 01's state between calls, and the calls. Each call is lent just the buffers that it
 // may write. A refusal hands the state back as it was and writes nothing.
 ghost use mathlib.Core.Path.{_≡_};
-ghost use Prim.Native.Nat.{_*_, _+_};
 ghost use Rattle.tree.specs.Plan.{planFault};
-ghost use Rattle.pieces.specs.Setting.{cols, stands};
-ghost use Rattle.base.specs.Pick.{pick};
-ghost use Rattle.pieces.specs.Opening.{roomToOpen, startState};
+ghost use Rattle.pieces.specs.Setting.{cols, countsFit, stands};
+ghost use Rattle.pieces.specs.Opening.{startState};
 ghost use Rattle.pieces.specs.Finishing.{complete};
-ghost use Rattle.columns.specs.Rooms.{RoomsOf};
 ghost use Rattle.columns.specs.Intake.{settingOf, stateOf, withState, storeOf, refusedWith, openAnswer, openLeft, rowsAnswer, rowsLeft, sWordsAnswer, sWordsLeft, cellsAnswer, cellsLeft, tablesAnswer, tablesLeft, finishAnswer, finishLeft};
 use crate::cells::cells_fault;
 use crate::cells::place_cells;
@@ -16,6 +13,8 @@ use crate::finishing::scratch_fine;
 use crate::finishing::write_firsts;
 use crate::opening::clear;
 use crate::records::write_words;
+use crate::rooms::room_number;
+use crate::rooms::rooms_of;
 use crate::row_tests::test_rows;
 use crate::rows::write_rows;
 use crate::s_words::s_words_fault;
@@ -60,58 +59,6 @@ fn refused(number: u64, state: Intake) -> Taken
     }
 }
 
-// The named words of each buffer.
-struct Rooms {
-    constants: usize,
-    copies: usize,
-    scratch: usize,
-    tables: usize,
-}
-
-fn rooms_of(plan: Plan) -> Rooms
-    requires { ⌜ planFault plan ≡ 0 ⌝ }
-    ensures { λ r. ⌜ RoomsOf (settingOf plan) r ⌝ }
-{
-    let lookup = plan.lookup;
-    let mut tables: u64 = 0;
-    if 0 < lookup.mode() {
-        tables = (lookup.lookup_width() + 1) * plan.trace;
-    }
-    Rooms {
-        constants: ((plan.constants + plan.specialised) * plan.trace) as usize,
-        copies: (plan.copy * plan.trace) as usize,
-        scratch: (2 * plan.variables) as usize,
-        tables: tables as usize,
-    }
-}
-
-// 10 where a buffer is too short to be opened, else 0.
-pub(crate) fn room_number(
-    plan: Plan,
-    constants: &[u64],
-    copies: &[u64],
-    scratch: &[u64],
-    tables: &[u64],
-) -> u64
-    requires { ⌜ planFault plan ≡ 0 ⌝ }
-    ensures { λ r. ⌜ r ≡ pick (roomToOpen (settingOf plan) (storeOf (now (constants .entry)) (now (copies .entry)) (now (scratch .entry)) (now (tables .entry)))) 0 10 ⌝ }
-{
-    let rooms = rooms_of(plan);
-    if constants.len() < rooms.constants {
-        return 10;
-    }
-    if copies.len() < rooms.copies {
-        return 10;
-    }
-    if scratch.len() < rooms.scratch {
-        return 10;
-    }
-    if tables.len() < rooms.tables {
-        return 10;
-    }
-    0
-}
-
 impl Intake {
     // A state before its first piece.
     fn start(plan: Plan, phase: u64) -> Self
@@ -136,6 +83,34 @@ impl Intake {
         self.plan
     }
 
+    // Whether no count is past its section.
+    fn counts_fit(self) -> bool
+        requires { ⌜ planFault (self .plan) ≡ 0 ⌝ }
+        ensures { λ r. ⌜ r ≡ countsFit (settingOf (self .plan)) (stateOf self) ⌝ }
+    {
+        let plan = self.plan;
+        if plan.trace < self.rows {
+            return false;
+        }
+        if plan.specialised * plan.trace < self.s_words {
+            return false;
+        }
+        if plan.copy * plan.trace < self.cells {
+            return false;
+        }
+        let lookup = plan.lookup;
+        if 0 < lookup.mode() {
+            if MOST_TABLES < self.tables {
+                return false;
+            }
+            return self.table_rows <= plan.trace;
+        }
+        if 0 < self.tables {
+            return false;
+        }
+        self.table_rows <= 0
+    }
+
     // Whether this is no made-up state: a sound plan, open, and no count past its section.
     fn stands(self) -> bool
         ensures { λ r. ⌜ r ≡ stands (settingOf (self .plan)) (stateOf self) ⌝ }
@@ -157,26 +132,7 @@ impl Intake {
         if self.phase != OPEN {
             return false;
         }
-        if plan.trace < self.rows {
-            return false;
-        }
-        if plan.specialised * plan.trace < self.s_words {
-            return false;
-        }
-        if plan.copy * plan.trace < self.cells {
-            return false;
-        }
-        let lookup = plan.lookup;
-        if 0 < lookup.mode() {
-            if MOST_TABLES < self.tables {
-                return false;
-            }
-            return self.table_rows <= plan.trace;
-        }
-        if 0 < self.tables {
-            return false;
-        }
-        self.table_rows <= 0
+        self.counts_fit()
     }
 
     // Opens the columns of a plan: named words zeroed, labels written, words beyond kept. A refusal
@@ -219,12 +175,19 @@ impl Intake {
         ensures { λ r. ⌜ r ≡ rowsAnswer self (now (piece .entry)) (now (constants .entry)) ⌝ }
         ensures { λ _. ⌜ now (constants .exit) ≡ rowsLeft self (now (piece .entry)) (now (constants .entry)) ⌝ }
     {
-        if self.stands() {
-            let plan = self.plan;
+        let plan = self.plan;
+        // its number is the plan's test, which is not made a second time
+        let gates = plan.gate_rows();
+        if gates.number != 0 {
+            return refused(19, self);
+        }
+        if self.phase != OPEN {
+            return refused(19, self);
+        }
+        if self.counts_fit() {
             if constants.len() < rooms_of(plan).constants {
                 return refused(10, self);
             }
-            let gates = plan.gate_rows();
             let own = gates.own;
             let mut used = self.used;
             let tested = test_rows(gates.many, &own, plan.trace, self.rows, piece, &mut used);

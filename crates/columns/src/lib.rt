@@ -4,6 +4,7 @@ mod finishing;
 pub mod intake;
 mod opening;
 mod records;
+mod rooms;
 mod row_tests;
 mod rows;
 mod s_words;

@@ -1,17 +1,18 @@
 // Tests of row records, in one walk.
 ghost use mathlib.Core.Path.{_≡_};
-ghost use Prim.Native.Nat.{ℕ, _+_, _≤_};
-ghost use lib.ListN.{length, getD};
+ghost use Prim.Native.Nat.{_+_, _≤_};
+ghost use lib.ListN.{length};
 ghost use Rattle.pieces.specs.Records.{rowSize, rowsOf};
 ghost use Rattle.pieces.specs.Front.{front};
 ghost use Rattle.pieces.specs.Rows.{rowFault, rowsFault, marked};
+ghost use Rattle.columns.specs.Placed.{gatesBy};
 use crate::records::all_below;
 
 // The number of the record at the front of the words, 0 where it has no fault. `own` has the
 // number of constants of each of the `many` gates.
 fn row_fault(many: u64, own: &[u64; 128], trace: u64, row: u64, words: &[u64]) -> u64
     requires { ⌜ many ≤ 128 ⌝ }
-    ensures { λ r. ⌜ r ≡ rowFault many (λ (g : ℕ). getD (now (own .entry)) g 0) trace row (front rowSize (now (words .entry))) ⌝ }
+    ensures { λ r. ⌜ r ≡ rowFault (gatesBy many (now (own .entry))) trace row (front rowSize (now (words .entry))) ⌝ }
 {
     if words.len() < 2 {
         return 12;
@@ -56,7 +57,7 @@ pub(crate) fn test_rows(
     used: &mut [u64; 128],
 ) -> Tested
     requires { ⌜ (many ≤ 128) × (count ≤ trace) × (trace ≤ 65536) ⌝ }
-    ensures { λ r. ⌜ r .number ≡ rowsFault many (λ (g : ℕ). getD (now (own .entry)) g 0) trace count (rowsOf (now (piece .entry))) ⌝ }
+    ensures { λ r. ⌜ r .number ≡ rowsFault (gatesBy many (now (own .entry))) trace count (rowsOf (now (piece .entry))) ⌝ }
     ensures { λ r. ⌜ (r .number ≡ 0 → (r .rows ≡ count + length (rowsOf (now (piece .entry)))) × (now (used .exit) ≡ marked (now (used .entry)) (rowsOf (now (piece .entry))))) ⌝ }
 {
     let mut row = count;

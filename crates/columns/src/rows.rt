@@ -2,12 +2,12 @@
 ghost use mathlib.Core.Path.{_≡_};
 ghost use mathlib.Core.List.{List, _++_};
 ghost use Prim.Native.Nat.{ℕ, _+_, _*_, _≤_};
-ghost use lib.ListN.{length, getD};
+ghost use lib.ListN.{length};
 ghost use Rattle.pieces.specs.Records.{rowsOf};
 ghost use Rattle.pieces.specs.Writing.{put, padded, putLines};
 ghost use Rattle.pieces.specs.Rows.{rowsFault, rowLines};
 ghost use Rattle.base.specs.Digits.{digits};
-ghost use Rattle.columns.specs.Placed.{Spells, Fits, Stageable, Stages};
+ghost use Rattle.columns.specs.Placed.{toldBy, Spells, Fits, Stageable, Stages};
 use crate::records::write_lines;
 use crate::records::write_path;
 use crate::records::write_same;
@@ -84,8 +84,8 @@ pub(crate) fn write_rows(
     constants: &mut [u64],
 )
     requires { ⌜ (trace ≤ 65536) × (height ≤ 64) × (gates .many ≤ 128) × (height * trace ≤ length (now constants)) ⌝ }
-    requires { ⌜ Fits (gates .many) height (gates .own) (gates .steps) ⌝ }
-    requires { ⌜ rowsFault (gates .many) (λ (g : ℕ). getD (gates .own) g 0) trace count (rowsOf (now piece)) ≡ 0 ⌝ }
+    requires { ⌜ Fits (toldBy gates) height (gates .steps) ⌝ }
+    requires { ⌜ rowsFault (toldBy gates) trace count (rowsOf (now piece)) ≡ 0 ⌝ }
     ensures { λ _. ⌜ ((path : ℕ → List ℕ) → Spells (gates .many) path (gates .bits) (gates .steps) → now (constants .exit) ≡ putLines height trace count (rowLines path (rowsOf (now (piece .entry)))) (now (constants .entry))) ⌝ }
 {
     let bits = gates.bits;

@@ -2,25 +2,21 @@
 // faulty section's, then finishing's. No word is written, so that a refusal of any of them leaves
 // the buffers as they were.
 ghost use mathlib.Core.Path.{_≡_};
-ghost use mathlib.Core.List.{List};
-ghost use Prim.Native.Nat.{ℕ};
 ghost use Rattle.tree.specs.Plan.{planFault};
-ghost use Rattle.pieces.specs.Records.{rowsOf};
 ghost use Rattle.pieces.specs.Opening.{openNumber};
-ghost use Rattle.pieces.specs.Rows.{rowsFault};
-ghost use Rattle.columns.specs.Intake.{settingOf, storeOf};
-ghost use Rattle.columns.specs.Sections.{sectionsNumber, piecesFault, afterPieces, lastTests};
+ghost use Rattle.columns.specs.Intake.{settingOf, stateOf, storeOf};
+ghost use Rattle.columns.specs.Sections.{sectionsNumber, laterFault, lastTests};
 use crate::cells::cells_fault;
 use crate::finishing::all_used;
 use crate::intake::Intake;
 use crate::intake::OPEN;
-use crate::intake::room_number;
+use crate::rooms::room_number;
 use crate::row_tests::test_rows;
 use crate::s_words::s_words_fault;
 use crate::tables::tables_fault;
 use tree::plan::Plan;
 
-// Opening's number: 19, 10 or 9.
+// Opening's number for a sound plan: 10 or 9.
 fn open_number(
     plan: Plan,
     constants: &[u64],
@@ -28,11 +24,9 @@ fn open_number(
     scratch: &[u64],
     tables: &[u64],
 ) -> u64
+    requires { ⌜ planFault plan ≡ 0 ⌝ }
     ensures { λ r. ⌜ r ≡ openNumber (settingOf plan) (storeOf (now (constants .entry)) (now (copies .entry)) (now (scratch .entry)) (now (tables .entry))) ⌝ }
 {
-    if plan.fault() != 0 {
-        return 19;
-    }
     let short = room_number(plan, constants, copies, scratch, tables);
     if short != 0 {
         return short;
@@ -40,19 +34,11 @@ fn open_number(
     labels::representatives(plan.trace, plan.copy).number
 }
 
-// The first fault of rows, S words, cells and tables, each section from its start on.
-fn pieces_fault(plan: Plan, rows: &[u64], s_words: &[u64], cells: &[u64], tables: &[u64]) -> u64
+// The first fault of S words, cells and tables, each section from its start on.
+fn later_fault(plan: Plan, s_words: &[u64], cells: &[u64], tables: &[u64]) -> u64
     requires { ⌜ planFault plan ≡ 0 ⌝ }
-    ensures { λ r. ⌜ r ≡ piecesFault (settingOf plan) (now (rows .entry)) (now («s_words» .entry)) (now (cells .entry)) (now (tables .entry)) ⌝ }
+    ensures { λ r. ⌜ r ≡ laterFault (settingOf plan) (now («s_words» .entry)) (now (cells .entry)) (now (tables .entry)) ⌝ }
 {
-    let gates = plan.gate_rows();
-    let own = gates.own;
-    // not read: finishing comes later
-    let mut marks = [0; 128];
-    let in_rows = test_rows(gates.many, &own, plan.trace, 0, rows, &mut marks).number;
-    if in_rows != 0 {
-        return in_rows;
-    }
     let in_s_words = s_words_fault(plan.specialised * plan.trace, 0, s_words);
     if in_s_words != 0 {
         return in_s_words;
@@ -66,28 +52,15 @@ fn pieces_fault(plan: Plan, rows: &[u64], s_words: &[u64], cells: &[u64], tables
     tables_fault(0 < lookup.mode(), width, plan.trace, 0, 0, tables)
 }
 
-// 16 and 17, of sections without a fault.
-fn last_tests(plan: Plan, rows: &[u64], s_words: &[u64], cells: &[u64]) -> u64
-    requires { ⌜ planFault plan ≡ 0 ⌝ }
-    requires { ⌜ rowsFault (settingOf plan .gates) (settingOf plan .own) (settingOf plan .trace) 0 (rowsOf (now rows)) ≡ 0 ⌝ }
-    ensures { λ r. ⌜ ((t : List ℕ) → r ≡ lastTests (settingOf plan) (afterPieces (now (rows .entry)) (now («s_words» .entry)) (now (cells .entry)) t)) ⌝ }
+// 16 and 17, of what came in without a fault.
+fn last_tests(state: Intake) -> u64
+    requires { ⌜ planFault (state .plan) ≡ 0 ⌝ }
+    ensures { λ r. ⌜ r ≡ lastTests (settingOf (state .plan)) (stateOf state) ⌝ }
 {
-    let gates = plan.gate_rows();
-    let own = gates.own;
-    let mut used = [0; 128];
-    let tested = test_rows(gates.many, &own, plan.trace, 0, rows, &mut used);
-    let state = Intake {
-        plan: plan,
-        rows: tested.rows,
-        s_words: s_words.len() as u64,
-        cells: cells.len() as u64,
-        tables: 0,
-        table_rows: 0,
-        used: used,
-        phase: OPEN,
-    };
     if state.complete() {
-        if all_used(plan.gate_count, &used) {
+        let many = state.plan.gate_count;
+        let used = state.used;
+        if all_used(many, &used) {
             return 0;
         }
         return 17;
@@ -110,13 +83,34 @@ pub fn sections_number(
 ) -> u64
     ensures { λ r. ⌜ r ≡ sectionsNumber (settingOf plan) (storeOf (now (constants .entry)) (now (copies .entry)) (now (scratch .entry)) (now (tables .entry))) (now (rows .entry)) (now («s_words» .entry)) (now (cells .entry)) (now («table_words» .entry)) ⌝ }
 {
+    // its number is the plan's test, which is not made a second time
+    let gates = plan.gate_rows();
+    if gates.number != 0 {
+        return 19;
+    }
     let opening = open_number(plan, constants, copies, scratch, tables);
     if opening != 0 {
         return opening;
     }
-    let fault = pieces_fault(plan, rows, s_words, cells, table_words);
+    let own = gates.own;
+    let mut used = [0; 128];
+    let tested = test_rows(gates.many, &own, plan.trace, 0, rows, &mut used);
+    if tested.number != 0 {
+        return tested.number;
+    }
+    let fault = later_fault(plan, s_words, cells, table_words);
     if fault != 0 {
         return fault;
     }
-    last_tests(plan, rows, s_words, cells)
+    let state = Intake {
+        plan: plan,
+        rows: tested.rows,
+        s_words: s_words.len() as u64,
+        cells: cells.len() as u64,
+        tables: 0,
+        table_rows: 0,
+        used: used,
+        phase: OPEN,
+    };
+    last_tests(state)
 }

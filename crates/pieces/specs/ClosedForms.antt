@@ -15,7 +15,7 @@ use lib.Seq.{getD-append-add}
 use Rattle.pieces.specs.Setting.{Setting, constantRoom, specialRoom}
 use Rattle.pieces.specs.Records.{Read, whole, cut, readBy, rowSize, tableSize, rowsOf, tablesOf}
 use Rattle.pieces.specs.Writing.{put, putLines, cleared}
-use Rattle.pieces.specs.Rows.{rowFault, rowsFault, rowLine, rowLines}
+use Rattle.pieces.specs.Rows.{Gates, gatesOf, rowFault, rowsFault, rowLine, rowLines}
 use Rattle.pieces.specs.Cells.{placeholder, indexOf, cellFault, cellsFault}
 use Rattle.pieces.specs.Tables.{Stack, rowsIn, stackNext, tableFault, tablesFault, entries, tableEntries, tableLines, sumRows}
 use Rattle.pieces.specs.WriteLaws.{put-length, put-other, put-at, below-rows, Reads, lines-length, lines-reads, lines-other}
@@ -25,9 +25,9 @@ use Rattle.pieces.specs.CellLaws.{cell-named}
 use Rattle.pieces.specs.FaultLaws.{row-cut, row-fine, table-cut, table-fine}
 
 -- ---- what an accepted record is
-abbrev pub GoodRow : ℕ → (ℕ → ℕ) → Read → Type 0
-GoodRow many own cut = ⊥
-GoodRow many own (whole g n cs) = (g < many) × (n ≤ own g)
+abbrev pub GoodRow : Gates → Read → Type 0
+GoodRow gs cut = ⊥
+GoodRow gs (whole g n cs) = (g < gs .many) × (n ≤ gs .own g)
 
 abbrev pub GoodTable : ℕ → Read → Type 0
 GoodTable W cut = ⊥
@@ -36,12 +36,12 @@ GoodTable W (whole w n cs) = w ≡ W
 abbrev pub GoodCell : ℕ → ℕ → Type 0
 GoodCell M w = w < placeholder → indexOf w < M
 
-good-row : (many : ℕ) (own : ℕ → ℕ) (N r : ℕ) (t : Read) → rowFault many own N r t ≡ 0 → GoodRow many own t
-good-row many own N r cut e = absurd (omega (arith, e, row-cut many own N r))
-good-row many own N r (whole g n cs) e = let f = row-fine many own N r g n cs e in (f .known, f .few)
+good-row : (gs : Gates) (N r : ℕ) (t : Read) → rowFault gs N r t ≡ 0 → GoodRow gs t
+good-row gs N r cut e = absurd (omega (arith, e, row-cut gs N r))
+good-row gs N r (whole g n cs) e = let f = row-fine gs N r g n cs e in (f .known, f .few)
 
-pub good-rows : (many : ℕ) (own : ℕ → ℕ) (N r : ℕ) (ts : List Read) → rowsFault many own N r ts ≡ 0 → Each (GoodRow many own) ts
-good-rows many own N r ts e = fault-each (rowFault many own N) (λ r _. suc r) (GoodRow many own) (good-row many own N) r ts e
+pub good-rows : (gs : Gates) (N r : ℕ) (ts : List Read) → rowsFault gs N r ts ≡ 0 → Each (GoodRow gs) ts
+good-rows gs N r ts e = fault-each (rowFault gs N) (λ r _. suc r) (GoodRow gs) (good-row gs N) r ts e
 
 good-table : (lookup : Bool) (W N : ℕ) (s : Stack) (t : Read) → tableFault lookup W N s t ≡ 0 → GoodTable W t
 good-table lookup W N s cut e = absurd (omega (arith, e, table-cut lookup W N s))
@@ -53,10 +53,10 @@ good-tables lookup W N s ts e = fault-each (tableFault lookup W N) stackNext (Go
 pub good-cells : (total M k : ℕ) (ws : List ℕ) → cellsFault total M k ws ≡ 0 → Each (GoodCell M) ws
 good-cells total M k ws e = fault-each (cellFault total M) (λ k _. suc k) (GoodCell M) (λ k w z. cell-named total M k w z) k ws e
 
-row-whole : (many : ℕ) (own : ℕ → ℕ) (ts : List Read) → Each (GoodRow many own) ts → Each Whole ts
-row-whole many own [] e = tt
-row-whole many own (cut ∷ ts) (a, e) = absurd a
-row-whole many own (whole g n cs ∷ ts) (a, e) = (tt, row-whole many own ts e)
+row-whole : (gs : Gates) (ts : List Read) → Each (GoodRow gs) ts → Each Whole ts
+row-whole gs [] e = tt
+row-whole gs (cut ∷ ts) (a, e) = absurd a
+row-whole gs (whole g n cs ∷ ts) (a, e) = (tt, row-whole gs ts e)
 
 table-whole : (W : ℕ) (ts : List Read) → Each (GoodTable W) ts → Each Whole ts
 table-whole W [] e = tt
@@ -64,10 +64,10 @@ table-whole W (cut ∷ ts) (a, e) = absurd a
 table-whole W (whole g n cs ∷ ts) (a, e) = (tt, table-whole W ts e)
 
 -- ---- records and lines of pieces put end to end
-pub rows-append : (many : ℕ) (own : ℕ → ℕ) (R ws : List ℕ) → Each (GoodRow many own) (rowsOf R) → rowsOf (R ++ ws) ≡ rowsOf R ++ rowsOf ws
+pub rows-append : (gs : Gates) (R ws : List ℕ) → Each (GoodRow gs) (rowsOf R) → rowsOf (R ++ ws) ≡ rowsOf R ++ rowsOf ws
 unfolding rowsOf
-rows-append many own R ws g =
-    read-append rowSize (length R) (length ws) (length (R ++ ws)) R ws (omega arith) (omega arith) (omega (arith, length-append R ws)) (row-whole many own (rowsOf R) g)
+rows-append gs R ws g =
+    read-append rowSize (length R) (length ws) (length (R ++ ws)) R ws (omega arith) (omega arith) (omega (arith, length-append R ws)) (row-whole gs (rowsOf R) g)
 
 pub tables-append : (W : ℕ) (T ws : List ℕ) → Each (GoodTable W) (tablesOf T) → tablesOf (T ++ ws) ≡ tablesOf T ++ tablesOf ws
 unfolding tablesOf
@@ -120,10 +120,10 @@ after-seam a b j h =
     ap (λ (i : ℕ). getD (a ++ b) i 0) e ∙ getD-append-add a b (j - length a) 0
 
 module _ (x : Setting) (R S b : List ℕ) where
-  pub rows-consts : (ws : List ℕ) → Each (GoodRow (x .gates) (x .own)) (rowsOf R) → length (rowsOf R) + length (rowsOf ws) ≤ x .trace → Consts x R S b
+  pub rows-consts : (ws : List ℕ) → Each (GoodRow (gatesOf x)) (rowsOf R) → length (rowsOf R) + length (rowsOf ws) ≤ x .trace → Consts x R S b
       → Consts x (R ++ ws) S (putLines (x .height) (x .trace) (length (rowsOf R)) (rowLines (x .path) (rowsOf ws)) b)
   rows-consts ws good room c =
-      let e : rowLines (x .path) (rowsOf (R ++ ws)) ≡ rowLines (x .path) (rowsOf R) ++ rowLines (x .path) (rowsOf ws) = rw (rows-append (x .gates) (x .own) R ws good) (lines-append (x .path) (rowsOf R) (rowsOf ws)) in
+      let e : rowLines (x .path) (rowsOf (R ++ ws)) ≡ rowLines (x .path) (rowsOf R) ++ rowLines (x .path) (rowsOf ws) = rw (rows-append (gatesOf x) R ws good) (lines-append (x .path) (rowsOf R) (rowsOf ws)) in
       let wide : x .height * x .trace ≤ length b = omega (arith, c .long) in
       let n = lines-many (x .path) (rowsOf R) in
       let m = lines-many (x .path) (rowsOf ws) in

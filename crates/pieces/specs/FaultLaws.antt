@@ -1,6 +1,6 @@
 -- Laws of the numbers of row, S word and table records: one equation for each cause, and what no fault says.
 --
--- Main statements: `row-fine`, `rows-room`, `word-fine`, `words-room`, `table-fine`, `tables-room`, `rows-own-same`, `no-tables` and the equations.
+-- Main definitions: `RowFine`, `Alike`, `TableFine`. Main statements: `row-fine`, `rows-room`, `word-fine`, `words-room`, `table-fine`, `tables-room`, `rows-alike`, `no-tables` and the equations.
 use mathlib.Core.Path.{_≡_, refl, sym, ap, _∙_}
 use mathlib.Core.Logic.{_≢_}
 use mathlib.Core.Bool.{Bool, true, false}
@@ -16,92 +16,94 @@ use Rattle.field.specs.Field.{p}
 use Rattle.pieces.specs.Setting.{mostTables}
 use Rattle.pieces.specs.Records.{Read, whole, cut, rowSize, tableSize, allBelow}
 use Rattle.pieces.specs.Front.{front}
-use Rattle.pieces.specs.Rows.{rowFault, rowsFault}
+use Rattle.pieces.specs.Rows.{Gates, rowFault, rowsFault}
 use Rattle.pieces.specs.SWords.{sWordFault, sWordsFault}
 use Rattle.pieces.specs.Tables.{Stack, stackNext, tableFault, tablesFault, sumRows}
 use Rattle.pieces.specs.RecordLaws.{fault-head, first-same, front-cut, front-whole}
 
 -- ---- rows
-pub record RowFine (many : ℕ) (own : ℕ → ℕ) (N r g n : ℕ) (cs : List ℕ) : Type 0 where
-  pub known : g < many
-  pub few : n ≤ own g
+pub record RowFine (gs : Gates) (N r g n : ℕ) (cs : List ℕ) : Type 0 where
+  pub known : g < gs .many
+  pub few : n ≤ gs .own g
   pub small : allBelow p cs ≡ true
   pub room : r < N
 
-module _ (many : ℕ) (own : ℕ → ℕ) (N r : ℕ) where
-  pub row-cut : rowFault many own N r cut ≡ 12
+module _ (gs : Gates) (N r : ℕ) where
+  pub row-cut : rowFault gs N r cut ≡ 12
   unfolding rowFault
   row-cut = refl
 
   module _ (g n : ℕ) (cs : List ℕ) where
-    pub row-unknown : many ≤ g → rowFault many own N r (whole g n cs) ≡ 12
+    pub row-unknown : gs .many ≤ g → rowFault gs N r (whole g n cs) ≡ 12
     unfolding rowFault
-    row-unknown h = rw (le-ltb g many h)
+    row-unknown h = rw (le-ltb g (gs .many) h)
 
-    pub row-long : g < many → own g < n → rowFault many own N r (whole g n cs) ≡ 12
+    pub row-long : g < gs .many → gs .own g < n → rowFault gs N r (whole g n cs) ≡ 12
     unfolding rowFault
-    row-long h k = rw (lt-ltb g many h, lt-leb n (own g) k)
+    row-long h k = rw (lt-ltb g (gs .many) h, lt-leb n (gs .own g) k)
 
-    pub row-large : g < many → n ≤ own g → allBelow p cs ≡ false → rowFault many own N r (whole g n cs) ≡ 11
+    pub row-large : g < gs .many → n ≤ gs .own g → allBelow p cs ≡ false → rowFault gs N r (whole g n cs) ≡ 11
     unfolding rowFault
-    row-large h k b = rw (lt-ltb g many h, le-leb n (own g) k, b)
+    row-large h k b = rw (lt-ltb g (gs .many) h, le-leb n (gs .own g) k, b)
 
-    pub row-past : g < many → n ≤ own g → allBelow p cs ≡ true → N ≤ r → rowFault many own N r (whole g n cs) ≡ 13
+    pub row-past : g < gs .many → n ≤ gs .own g → allBelow p cs ≡ true → N ≤ r → rowFault gs N r (whole g n cs) ≡ 13
     unfolding rowFault
-    row-past h k b l = rw (lt-ltb g many h, le-leb n (own g) k, b, le-ltb r N l)
+    row-past h k b l = rw (lt-ltb g (gs .many) h, le-leb n (gs .own g) k, b, le-ltb r N l)
 
-    pub row-good : RowFine many own N r g n cs → rowFault many own N r (whole g n cs) ≡ 0
+    pub row-good : RowFine gs N r g n cs → rowFault gs N r (whole g n cs) ≡ 0
     unfolding rowFault
-    row-good f = rw (lt-ltb g many (f .known), le-leb n (own g) (f .few), f .small, lt-ltb r N (f .room))
+    row-good f = rw (lt-ltb g (gs .many) (f .known), le-leb n (gs .own g) (f .few), f .small, lt-ltb r N (f .room))
 
-    pub row-fine : rowFault many own N r (whole g n cs) ≡ 0 → RowFine many own N r g n cs
+    pub row-fine : rowFault gs N r (whole g n cs) ≡ 0 → RowFine gs N r g n cs
     unfolding rowFault
     row-fine e =
-        let a = pick-zero (ltb g many) (pick (leb n (own g)) (pick (allBelow p cs) (pick (ltb r N) 0 13) 11) 12) 12 (λ q. omega arith) e in
-        let b = pick-zero (leb n (own g)) (pick (allBelow p cs) (pick (ltb r N) 0 13) 11) 12 (λ q. omega arith) (a .1) in
+        let a = pick-zero (ltb g (gs .many)) (pick (leb n (gs .own g)) (pick (allBelow p cs) (pick (ltb r N) 0 13) 11) 12) 12 (λ q. omega arith) e in
+        let b = pick-zero (leb n (gs .own g)) (pick (allBelow p cs) (pick (ltb r N) 0 13) 11) 12 (λ q. omega arith) (a .1) in
         let c = pick-zero (allBelow p cs) (pick (ltb r N) 0 13) 11 (λ q. omega arith) (b .1) in
         let d = pick-zero (ltb r N) 0 13 (λ q. omega arith) (c .1) in
-        record { known = ltb-true g many (a .0); few = leb-true n (own g) (b .0); small = c .0; room = ltb-true r N (d .0) }
+        record { known = ltb-true g (gs .many) (a .0); few = leb-true n (gs .own g) (b .0); small = c .0; room = ltb-true r N (d .0) }
 
 -- the record at the front of the words, by its first word and by its second: cut short or not, the number is 12
-module _ (many : ℕ) (own : ℕ → ℕ) (N r : ℕ) (ws : List ℕ) (two : 2 ≤ length ws) where
-  row-front : ((cs : List ℕ) → rowFault many own N r (whole (getD ws 0 0) (getD ws 1 0) cs) ≡ 12) → rowFault many own N r (front rowSize ws) ≡ 12
+module _ (gs : Gates) (N r : ℕ) (ws : List ℕ) (two : 2 ≤ length ws) where
+  row-front : ((cs : List ℕ) → rowFault gs N r (whole (getD ws 0 0) (getD ws 1 0) cs) ≡ 12) → rowFault gs N r (front rowSize ws) ≡ 12
   row-front h = go (decLe (getD ws 1 0) (length ws - 2))
     where
-      go : Dec (getD ws 1 0 ≤ length ws - 2) → rowFault many own N r (front rowSize ws) ≡ 12
-      go (yes k) = ap (rowFault many own N r) (front-whole rowSize ws two k) ∙ h _
-      go (no k) = ap (rowFault many own N r) (front-cut rowSize ws two (omega arith)) ∙ row-cut many own N r
+      go : Dec (getD ws 1 0 ≤ length ws - 2) → rowFault gs N r (front rowSize ws) ≡ 12
+      go (yes k) = ap (rowFault gs N r) (front-whole rowSize ws two k) ∙ h _
+      go (no k) = ap (rowFault gs N r) (front-cut rowSize ws two (omega arith)) ∙ row-cut gs N r
 
-  pub front-unknown : many ≤ getD ws 0 0 → rowFault many own N r (front rowSize ws) ≡ 12
-  front-unknown h = row-front (λ cs. row-unknown many own N r (getD ws 0 0) (getD ws 1 0) cs h)
+  pub front-unknown : gs .many ≤ getD ws 0 0 → rowFault gs N r (front rowSize ws) ≡ 12
+  front-unknown h = row-front (λ cs. row-unknown gs N r (getD ws 0 0) (getD ws 1 0) cs h)
 
-  pub front-long : getD ws 0 0 < many → own (getD ws 0 0) < getD ws 1 0 → rowFault many own N r (front rowSize ws) ≡ 12
-  front-long h k = row-front (λ cs. row-long many own N r (getD ws 0 0) (getD ws 1 0) cs h k)
+  pub front-long : getD ws 0 0 < gs .many → gs .own (getD ws 0 0) < getD ws 1 0 → rowFault gs N r (front rowSize ws) ≡ 12
+  front-long h k = row-front (λ cs. row-long gs N r (getD ws 0 0) (getD ws 1 0) cs h k)
 
 -- a piece of rows without a fault fits the trace
-pub rows-room : (many : ℕ) (own : ℕ → ℕ) (N r : ℕ) (ts : List Read) → r ≤ N → rowsFault many own N r ts ≡ 0 → r + length ts ≤ N
-rows-room many own N r [] h e = omega arith
-rows-room many own N r (cut ∷ ts) h e =
-    let f = fault-head (rowFault many own N) (λ r _. suc r) r cut ts e in absurd (omega (arith, f .0, row-cut many own N r))
-rows-room many own N r (whole g n cs ∷ ts) h e =
-    let f = fault-head (rowFault many own N) (λ r _. suc r) r (whole g n cs) ts e in
-    omega (arith, rows-room many own N (suc r) ts (row-fine many own N r g n cs (f .0) .room) (f .1))
+pub rows-room : (gs : Gates) (N r : ℕ) (ts : List Read) → r ≤ N → rowsFault gs N r ts ≡ 0 → r + length ts ≤ N
+rows-room gs N r [] h e = omega arith
+rows-room gs N r (cut ∷ ts) h e =
+    let f = fault-head (rowFault gs N) (λ r _. suc r) r cut ts e in absurd (omega (arith, f .0, row-cut gs N r))
+rows-room gs N r (whole g n cs ∷ ts) h e =
+    let f = fault-head (rowFault gs N) (λ r _. suc r) r (whole g n cs) ts e in
+    omega (arith, rows-room gs N (suc r) ts (row-fine gs N r g n cs (f .0) .room) (f .1))
 
-row-by : (many : ℕ) (own own' : ℕ → ℕ) (N r g n : ℕ) (cs : List ℕ) → own g ≡ own' g → rowFault many own N r (whole g n cs) ≡ rowFault many own' N r (whole g n cs)
+-- two tellings of the gates that agree on those that are listed
+pub record Alike (a b : Gates) : Type 0 where
+  pub many-same : a .many ≡ b .many
+  pub own-same : (g : ℕ) → g < a .many → a .own g ≡ b .own g
+
+row-alike : (a b : Gates) → Alike a b → (N r : ℕ) (t : Read) → rowFault a N r t ≡ rowFault b N r t
 unfolding rowFault
-row-by many own own' N r g n cs e = rw e
-
--- only the constants of listed gates count
-row-own-same : (many : ℕ) (own own' : ℕ → ℕ) (N r : ℕ) (t : Read) → ((g : ℕ) → g < many → own g ≡ own' g) → rowFault many own N r t ≡ rowFault many own' N r t
-row-own-same many own own' N r cut e = row-cut many own N r ∙ sym (row-cut many own' N r)
-row-own-same many own own' N r (whole g n cs) e = go (decLt g many)
+row-alike a b e N r cut = refl
+row-alike a b e N r (whole g n cs) = go (decLt g (a .many))
   where
-    go : Dec (g < many) → rowFault many own N r (whole g n cs) ≡ rowFault many own' N r (whole g n cs)
-    go (no h) = row-unknown many own N r g n cs (omega arith) ∙ sym (row-unknown many own' N r g n cs (omega arith))
-    go (yes h) = row-by many own own' N r g n cs (e g h)
+    go : Dec (g < a .many) → rowFault a N r (whole g n cs) ≡ rowFault b N r (whole g n cs)
+    go (no h) = row-unknown a N r g n cs (omega arith) ∙ sym (row-unknown b N r g n cs (omega (arith, e .many-same)))
+    go (yes h) = rw (e .many-same, e .own-same g h)
 
-pub rows-own-same : (many : ℕ) (own own' : ℕ → ℕ) (N r : ℕ) (ts : List Read) → ((g : ℕ) → g < many → own g ≡ own' g) → rowsFault many own N r ts ≡ rowsFault many own' N r ts
-rows-own-same many own own' N r ts e = first-same (rowFault many own N) (rowFault many own' N) (λ r _. suc r) (λ r t. row-own-same many own own' N r t e) r ts
+-- only listed gates count
+pub rows-alike : (a b : Gates) → Alike a b → (N r : ℕ) (ts : List Read) → rowsFault a N r ts ≡ rowsFault b N r ts
+rows-alike a b e N r ts = first-same (rowFault a N) (rowFault b N) (λ r _. suc r) (row-alike a b e N) r ts
 
 -- ---- S words
 module _ (total k w : ℕ) where

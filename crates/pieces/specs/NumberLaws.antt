@@ -1,6 +1,6 @@
 -- Laws of the calls' numbers: 19 first, then 10, then the section's own; and what acceptance says.
 --
--- Main definitions: `Stood`. Main statements: `stood`, and for each call what it means that it is accepted: `rows-accepted`, `words-accepted`, `cells-accepted`,
+-- Main definitions: `Counted`, `Stood`. Main statements: `counted`, `stood`, and for each call what it means that it is accepted: `rows-accepted`, `words-accepted`, `cells-accepted`,
 -- `tables-accepted`, `finish-accepted`.
 use mathlib.Core.Path.{_≡_}
 use mathlib.Core.Bool.{Bool, true, false}
@@ -11,18 +11,16 @@ use lib.ListN.{length}
 use lib.Dec.{leb, eqb}
 use borrow.Author.Tests.{leb-true, eqb-true}
 use Rattle.base.specs.Pick.{pick, both, pick-zero, both-true}
-use Rattle.pieces.specs.Setting.{Setting, State, Cols, constantRoom, copyRoom, tableRoom, specialRoom, mostTables, isOpened, stands}
+use Rattle.pieces.specs.Setting.{Setting, State, Cols, constantRoom, copyRoom, tableRoom, specialRoom, mostTables, isOpened, countsFit, stands}
 use Rattle.pieces.specs.Records.{rowsOf, tablesOf}
-use Rattle.pieces.specs.Rows.{rowsFault, rowsNumber}
+use Rattle.pieces.specs.Rows.{gatesOf, rowsFault, rowsNumber}
 use Rattle.pieces.specs.SWords.{sWordsFault, sWordsNumber}
 use Rattle.pieces.specs.Cells.{cellsFault, cellsNumber, roomForCells}
 use Rattle.pieces.specs.Tables.{tablesFault, tablesNumber, stackOf}
 use Rattle.pieces.specs.Finishing.{complete, allUsed, scratchFine, finishNumber}
 
--- what a state that is not made-up has
-pub record Stood (x : Setting) (s : State) : Type 0 where
-  pub sound-plan : x .sound ≡ true
-  pub is-open : s .phase ≡ isOpened
+-- what counts within their sections are
+pub record Counted (x : Setting) (s : State) : Type 0 where
   pub rows-in : s .rowCount ≤ x .trace
   pub words-in : s .wordCount ≤ specialRoom x
   pub cells-in : s .cellCount ≤ copyRoom x
@@ -34,28 +32,36 @@ lookup-room : (b : Bool) (n N : ℕ) → n ≤ pick b N 0 → n ≤ N
 lookup-room true n N h = h
 lookup-room false n N h = omega arith
 
-pub stood : (x : Setting) (s : State) → stands x s ≡ true → Stood x s
-unfolding stands
-stood x s e =
+pub counted : (x : Setting) (s : State) → countsFit x s ≡ true → Counted x s
+unfolding countsFit
+counted x s e =
     let t6 = both (leb (s .tableCount) (pick (x .lookup) mostTables 0)) (leb (s .stacked) (pick (x .lookup) (x .trace) 0)) in
     let t5 = both (leb (s .cellCount) (copyRoom x)) t6 in
     let t4 = both (leb (s .wordCount) (specialRoom x)) t5 in
-    let t3 = both (leb (s .rowCount) (x .trace)) t4 in
-    let a = both-true (x .sound) (both (eqb (s .phase) isOpened) t3) e in
-    let b = both-true (eqb (s .phase) isOpened) t3 (a .1) in
-    let c = both-true (leb (s .rowCount) (x .trace)) t4 (b .1) in
+    let c = both-true (leb (s .rowCount) (x .trace)) t4 e in
     let d = both-true (leb (s .wordCount) (specialRoom x)) t5 (c .1) in
     let f = both-true (leb (s .cellCount) (copyRoom x)) t6 (d .1) in
     let g = both-true (leb (s .tableCount) (pick (x .lookup) mostTables 0)) (leb (s .stacked) (pick (x .lookup) (x .trace) 0)) (f .1) in
     record {
-      sound-plan = a .0;
-      is-open = eqb-true (s .phase) isOpened (b .0);
       rows-in = leb-true (s .rowCount) (x .trace) (c .0);
       words-in = leb-true (s .wordCount) (specialRoom x) (d .0);
       cells-in = leb-true (s .cellCount) (copyRoom x) (f .0);
       tables-in = lookup-room (x .lookup) (s .tableCount) mostTables (leb-true (s .tableCount) (pick (x .lookup) mostTables 0) (g .0));
       stack-in = lookup-room (x .lookup) (s .stacked) (x .trace) (leb-true (s .stacked) (pick (x .lookup) (x .trace) 0) (g .1));
     }
+
+-- what a state that is not made-up has
+pub record Stood (x : Setting) (s : State) : Type 0 where
+  pub sound-plan : x .sound ≡ true
+  pub is-open : s .phase ≡ isOpened
+  pub counts : Counted x s
+
+pub stood : (x : Setting) (s : State) → stands x s ≡ true → Stood x s
+unfolding stands
+stood x s e =
+    let a = both-true (x .sound) (both (eqb (s .phase) isOpened) (countsFit x s)) e in
+    let b = both-true (eqb (s .phase) isOpened) (countsFit x s) (a .1) in
+    record { sound-plan = a .0; is-open = eqb-true (s .phase) isOpened (b .0); counts = counted x s (b .1) }
 
 -- ---- a call whose number is 0
 pub record Accepted (x : Setting) (s : State) (room : Bool) (fault : ℕ) : Type 0 where
@@ -71,7 +77,7 @@ accepted x s room fault e =
 
 module _ (x : Setting) (s : State) where
   pub rows-accepted : (ws b : List ℕ) → rowsNumber x s ws b ≡ 0
-      → Accepted x s (leb (constantRoom x) (length b)) (rowsFault (x .gates) (x .own) (x .trace) (s .rowCount) (rowsOf ws))
+      → Accepted x s (leb (constantRoom x) (length b)) (rowsFault (gatesOf x) (x .trace) (s .rowCount) (rowsOf ws))
   unfolding rowsNumber
   rows-accepted ws b e = accepted x s _ _ e
 

@@ -1,6 +1,6 @@
 -- 01, 'Columns by pieces': rows.
 --
--- Main definitions: `rowFault`, `rowsFault`, `rowsNumber`, `rowLines`, `rowsWritten`, `rowsState`.
+-- Main definitions: `Gates`, `gatesOf`, `rowFault`, `rowsFault`, `rowsNumber`, `rowLines`, `rowsWritten`, `rowsState`.
 use mathlib.Core.List.{List, [], _∷_, _++_}
 use Prim.Native.Nat.{ℕ, suc, _+_}
 use lib.ListN.{length, set}
@@ -11,22 +11,29 @@ use Rattle.pieces.specs.Setting.{Setting, State, constantRoom, stands}
 use Rattle.pieces.specs.Records.{Read, whole, cut, rowsOf, firstFault, allBelow}
 use Rattle.pieces.specs.Writing.{putLines}
 
--- "12 record cut short, gate unknown, or more constants than its gate has; 11 a word not below p; 13 past N." of row r, for `many` gates that
--- have `own` constants each, and N rows
-unfoldable pub rowFault : ℕ → (ℕ → ℕ) → ℕ → ℕ → Read → ℕ
-rowFault many own N r cut = 12
-rowFault many own N r (whole g n cs) =
-    pick (ltb g many) (pick (leb n (own g)) (pick (allBelow p cs) (pick (ltb r N) 0 13) 11) 12) 12
+-- what a row's test needs of the gates
+pub record Gates : Type 0 where
+  pub many : ℕ  -- how many are listed
+  pub own : ℕ → ℕ  -- the number of constants that a gate has
+
+abbrev pub gatesOf : Setting → Gates
+gatesOf x = record { many = x .gates; own = x .own }
+
+-- "12 record cut short, gate unknown, or more constants than its gate has; 11 a word not below p; 13 past N." of row r, for N rows
+unfoldable pub rowFault : Gates → ℕ → ℕ → Read → ℕ
+rowFault gs N r cut = 12
+rowFault gs N r (whole g n cs) =
+    pick (ltb g (gs .many)) (pick (leb n (gs .own g)) (pick (allBelow p cs) (pick (ltb r N) 0 13) 11) 12) 12
 
 -- "Rows, first faulty record"
-abbrev pub rowsFault : ℕ → (ℕ → ℕ) → ℕ → ℕ → List Read → ℕ
-rowsFault many own N = firstFault (rowFault many own N) (λ r _. suc r)
+abbrev pub rowsFault : Gates → ℕ → ℕ → List Read → ℕ
+rowsFault gs N = firstFault (rowFault gs N) (λ r _. suc r)
 
 -- "19; 10; 12 ..": the number of a rows call
 unfoldable pub rowsNumber : Setting → State → List ℕ → List ℕ → ℕ
 rowsNumber x s ws b =
     pick (stands x s)
-    (pick (leb (constantRoom x) (length b)) (rowsFault (x .gates) (x .own) (x .trace) (s .rowCount) (rowsOf ws)) 10)
+    (pick (leb (constantRoom x) (length b)) (rowsFault (gatesOf x) (x .trace) (s .rowCount) (rowsOf ws)) 10)
     19
 
 -- "A row writes its gate's path, then its constants, then zeros"

@@ -1,6 +1,6 @@
 -- 01, 'Columns by pieces': what a plan fixes for the columns, the state between calls, the lent buffers, and the test for a made-up state (19).
 --
--- Main definitions: `Setting`, `State`, `Store`, `Held`, the four rooms, `stands`.
+-- Main definitions: `Setting`, `State`, `Store`, `Held`, the four rooms, `countsFit`, `stands`.
 use mathlib.Core.Bool.{Bool}
 use mathlib.Core.List.{List}
 use Prim.Native.Nat.{ℕ, _+_, _*_}
@@ -83,12 +83,14 @@ specialRoom x = x .special * x .trace
 abbrev pub mostTables : ℕ
 mostTables = 255
 
--- "It is given for a made-up state too: such a plan, a count past its section, never opened, or finished."
-unfoldable pub stands : Setting → State → Bool
-stands x s =
-    both (x .sound)
-    (both (eqb (s .phase) isOpened)
-    (both (leb (s .rowCount) (x .trace))
+-- no "count past its section"
+unfoldable pub countsFit : Setting → State → Bool
+countsFit x s =
+    both (leb (s .rowCount) (x .trace))
     (both (leb (s .wordCount) (specialRoom x))
     (both (leb (s .cellCount) (copyRoom x))
-    (both (leb (s .tableCount) (pick (x .lookup) mostTables 0)) (leb (s .stacked) (pick (x .lookup) (x .trace) 0)))))))
+    (both (leb (s .tableCount) (pick (x .lookup) mostTables 0)) (leb (s .stacked) (pick (x .lookup) (x .trace) 0)))))
+
+-- "It is given for a made-up state too: such a plan, a count past its section, never opened, or finished."
+unfoldable pub stands : Setting → State → Bool
+stands x s = both (x .sound) (both (eqb (s .phase) isOpened) (countsFit x s))

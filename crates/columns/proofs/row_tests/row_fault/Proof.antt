@@ -11,13 +11,14 @@ use Rattle.pieces.specs.Front.{front}
 use Rattle.pieces.specs.Rows.{rowFault}
 use Rattle.pieces.specs.RecordLaws.{front-short, front-cut, front-whole}
 use Rattle.pieces.specs.FaultLaws.{row-cut, row-large, row-past, row-good, front-unknown, front-long}
+use Rattle.columns.specs.Placed.{gatesBy}
 use Rattle.columns.proofs.row_tests.row_fault.Statement.{statement}
 use Rattle.columns.proofs.row_tests.row_fault.Tie as tie
 
 returns : tie.Need-returns
 returns c =
     let a = c .before .before .args in
-    sym (ap (rowFault (a .many) (λ (g : ℕ). getD (a .own .now) g 0) (a .trace) (a .row)) (front-short rowSize (a .words .now) (c .if1 .taken)) ∙ row-cut (a .many) (λ (g : ℕ). getD (a .own .now) g 0) (a .trace) (a .row))
+    sym (ap (rowFault (gatesBy (a .many) (a .own .now)) (a .trace) (a .row)) (front-short rowSize (a .words .now) (c .if1 .taken)) ∙ row-cut (gatesBy (a .many) (a .own .now)) (a .trace) (a .row))
 
 shared-slice-read-gate : tie.Need-shared-slice-read-gate
 shared-slice-read-gate c = search needs
@@ -25,7 +26,7 @@ shared-slice-read-gate c = search needs
 returns-2 : tie.Need-returns-2
 returns-2 c =
     let a = c .before .before .before .before .args in
-    sym (front-unknown (a .many) (λ (g : ℕ). getD (a .own .now) g 0) (a .trace) (a .row) (a .words .now) (c .before .before .if1 .left) (c .if2 .taken))
+    sym (front-unknown (gatesBy (a .many) (a .own .now)) (a .trace) (a .row) (a .words .now) (c .before .before .if1 .left) (c .if2 .taken))
 
 shared-slice-read-n : tie.Need-shared-slice-read-n
 shared-slice-read-n c = search needs
@@ -39,7 +40,7 @@ element-copy-out-if3 c = search needs
 returns-3 : tie.Need-returns-3
 returns-3 c =
     let a = c .before .before .before .before .before .before .before .args in
-    sym (front-long (a .many) (λ (g : ℕ). getD (a .own .now) g 0) (a .trace) (a .row) (a .words .now) (c .before .before .before .before .before .if1 .left) (c .before .before .before .if2 .left) (c .if3 .taken))
+    sym (front-long (gatesBy (a .many) (a .own .now)) (a .trace) (a .row) (a .words .now) (c .before .before .before .before .before .if1 .left) (c .before .before .before .if2 .left) (c .if3 .taken))
 
 sub-if4 : tie.Need-sub-if4
 sub-if4 c = search needs
@@ -47,7 +48,7 @@ sub-if4 c = search needs
 returns-4 : tie.Need-returns-4
 returns-4 c =
     let a = c .before .before .before .before .before .before .before .before .args in
-    sym (ap (rowFault (a .many) (λ (g : ℕ). getD (a .own .now) g 0) (a .trace) (a .row)) (front-cut rowSize (a .words .now) (c .before .before .before .before .before .before .if1 .left) (c .if4 .taken)) ∙ row-cut (a .many) (λ (g : ℕ). getD (a .own .now) g 0) (a .trace) (a .row))
+    sym (ap (rowFault (gatesBy (a .many) (a .own .now)) (a .trace) (a .row)) (front-cut rowSize (a .words .now) (c .before .before .before .before .before .before .if1 .left) (c .if4 .taken)) ∙ row-cut (gatesBy (a .many) (a .own .now)) (a .trace) (a .row))
 
 add-end : tie.Need-add-end
 add-end c = search needs
@@ -83,7 +84,7 @@ returns-5 c =
     let cs = take n (drop 2 (a .words .now)) in
     let known : g < a .many = c .before .before .before .before .before .before .before .before .if2 .left in
     let few : n ≤ getD (a .own .now) g 0 = c .before .before .before .before .before .if3 .left in
-    sym (ap (rowFault (a .many) (λ (g : ℕ). getD (a .own .now) g 0) (a .trace) (a .row)) (read (c .before .before .before .before)) ∙ row-past (a .many) (λ (g : ℕ). getD (a .own .now) g 0) (a .trace) (a .row) g n cs known few (sym (below (c .before .before)) ∙ c .before .if5 .taken) (omega (arith, c .if6 .taken)))
+    sym (ap (rowFault (gatesBy (a .many) (a .own .now)) (a .trace) (a .row)) (read (c .before .before .before .before)) ∙ row-past (gatesBy (a .many) (a .own .now)) (a .trace) (a .row) g n cs known few (sym (below (c .before .before)) ∙ c .before .if5 .taken) (omega (arith, c .if6 .taken)))
 
 returns-6 : tie.Need-returns-6
 returns-6 c =
@@ -93,7 +94,7 @@ returns-6 c =
     let cs = take n (drop 2 (a .words .now)) in
     let known : g < a .many = c .before .before .before .before .before .before .before .before .if2 .left in
     let few : n ≤ getD (a .own .now) g 0 = c .before .before .before .before .before .if3 .left in
-    sym (ap (rowFault (a .many) (λ (g : ℕ). getD (a .own .now) g 0) (a .trace) (a .row)) (read (c .before .before .before .before)) ∙ row-good (a .many) (λ (g : ℕ). getD (a .own .now) g 0) (a .trace) (a .row) g n cs (record { known = known; few = few; small = sym (below (c .before .before)) ∙ c .before .if5 .taken; room = c .if6 .left }))
+    sym (ap (rowFault (gatesBy (a .many) (a .own .now)) (a .trace) (a .row)) (read (c .before .before .before .before)) ∙ row-good (gatesBy (a .many) (a .own .now)) (a .trace) (a .row) g n cs (record { known = known; few = few; small = sym (below (c .before .before)) ∙ c .before .if5 .taken; room = c .if6 .left }))
 
 returns-7 : tie.Need-returns-7
 returns-7 c =
@@ -103,7 +104,7 @@ returns-7 c =
     let cs = take n (drop 2 (a .words .now)) in
     let known : g < a .many = c .before .before .before .before .before .before .before .if2 .left in
     let few : n ≤ getD (a .own .now) g 0 = c .before .before .before .before .if3 .left in
-    sym (ap (rowFault (a .many) (λ (g : ℕ). getD (a .own .now) g 0) (a .trace) (a .row)) (read (c .before .before .before)) ∙ row-large (a .many) (λ (g : ℕ). getD (a .own .now) g 0) (a .trace) (a .row) g n cs known few (sym (below (c .before)) ∙ c .if5 .left))
+    sym (ap (rowFault (gatesBy (a .many) (a .own .now)) (a .trace) (a .row)) (read (c .before .before .before)) ∙ row-large (gatesBy (a .many) (a .own .now)) (a .trace) (a .row) g n cs known few (sym (below (c .before)) ∙ c .if5 .left))
 
 pub row-fault-spec : {M : Type 1} → statement M
 row-fault-spec =

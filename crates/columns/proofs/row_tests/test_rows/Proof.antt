@@ -7,22 +7,19 @@ use native.Mathlib.Omega.{arith}
 use Prim.Native.Nat.{ℕ, _+_, _-_, _<_, _≤_}
 use lib.ListN.{length, getD, take, drop}
 use mathlib.Core.Logic.{_≢_}
-use Rattle.pieces.specs.Records.{Read, cut, rowSize}
+use Rattle.pieces.specs.Records.{cut, rowSize}
 use Rattle.pieces.specs.Front.{front}
-use Rattle.pieces.specs.Rows.{rowFault}
+use Rattle.pieces.specs.Rows.{Gates, rowFault}
 use Rattle.pieces.specs.RecordLaws.{uncut}
 use Rattle.pieces.specs.FaultLaws.{RowFine, row-cut, row-fine}
+use Rattle.columns.specs.Placed.{gatesBy}
 use Rattle.columns.proofs.Parts.{rest-is}
 use Rattle.columns.proofs.RowLoop.{Passed, passed-none, passed-next, passed-found, passed-fine, passed-count, passed-marks}
 use Rattle.columns.proofs.row_tests.test_rows.Statement.{statement}
 use Rattle.columns.proofs.row_tests.test_rows.Tie as tie
 
--- a record's number, by the row and the record
-abbrev numbered : ℕ → List ℕ → ℕ → ℕ → Read → ℕ
-numbered many own trace = rowFault many (λ (g : ℕ). getD own g 0) trace
-
 abbrev Inv-loop : tie.InvT-loop
-Inv-loop many own trace count piece used₀ row₀ i₀ used row i = Passed many (λ (g : ℕ). getD own g 0) trace piece used₀ count used row i
+Inv-loop many own trace count piece used₀ row₀ i₀ used row i = Passed (gatesBy many own) trace piece used₀ count used row i
 
 abbrev μ-loop : tie.MeasureT-loop
 μ-loop many own trace count piece used₀ row₀ i₀ used row i = length piece - i
@@ -30,7 +27,7 @@ abbrev μ-loop : tie.MeasureT-loop
 loop-holds : tie.Need-loop-holds Inv-loop μ-loop
 loop-holds c =
     let a = c .before .args in
-    passed-none (a .many) (λ (g : ℕ). getD (a .own .now) g 0) (a .trace) (a .piece .now) (a .used .now) (a .count) (omega (arith, c .before .pre))
+    passed-none (gatesBy (a .many) (a .own .now)) (a .trace) (a .piece .now) (a .used .now) (a .count) (omega (arith, c .before .pre))
 
 mul-row-fault : tie.Need-mul-row-fault Inv-loop μ-loop
 mul-row-fault c = search needs
@@ -49,36 +46,36 @@ row-fault-requires c κs = c .before .before .before .before .pre .0
 
 -- the part that is handed over is the words from i on
 part : (c : tie.After-row-fault Inv-loop μ-loop) → let a = c .before .before .before .before .before .args in let l = c .before .before .before .loop in
-    c .row-fault .result ≡ numbered (a .many) (a .own .now) (a .trace) (l .row) (front rowSize (drop (l .i) (a .piece .now)))
+    c .row-fault .result ≡ rowFault (gatesBy (a .many) (a .own .now)) (a .trace) (l .row) (front rowSize (drop (l .i) (a .piece .now)))
 part c =
     let a = c .before .before .before .before .before .args in
     let l = c .before .before .before .loop in
-    c .row-fault .ensures ∙ ap (λ (rest : List ℕ). numbered (a .many) (a .own .now) (a .trace) (l .row) (front rowSize rest)) (rest-is (a .piece .now) (l .i))
+    c .row-fault .ensures ∙ ap (λ (rest : List ℕ). rowFault (gatesBy (a .many) (a .own .now)) (a .trace) (l .row) (front rowSize rest)) (rest-is (a .piece .now) (l .i))
 
 -- a record without a fault is whole
-record Good (many : ℕ) (own : List ℕ) (trace row i : ℕ) (piece : List ℕ) : Type 0 where
+record Good (gs : Gates) (trace row i : ℕ) (piece : List ℕ) : Type 0 where
   pub two : i + 1 < length piece
   pub fits : getD piece (i + 1) 0 ≤ length piece - (i + 2)
-  pub fine : RowFine many (λ (g : ℕ). getD own g 0) trace row (getD piece i 0) (getD piece (i + 1) 0) (take (getD piece (i + 1) 0) (drop (i + 2) piece))
+  pub fine : RowFine gs trace row (getD piece i 0) (getD piece (i + 1) 0) (take (getD piece (i + 1) 0) (drop (i + 2) piece))
 
-good-row : (many : ℕ) (own : List ℕ) (trace row i : ℕ) (piece : List ℕ) → numbered many own trace row (front rowSize (drop i piece)) ≡ 0 → Good many own trace row i piece
-good-row many own trace row i piece e =
-    let bad : numbered many own trace row cut ≢ 0 = λ z. omega (arith, z, row-cut many (λ (g : ℕ). getD own g 0) trace row) in
-    let u = uncut rowSize piece i (λ q. bad (ap (numbered many own trace row) (sym q) ∙ e)) in
-    record { two = u .two; fits = u .fits; fine = row-fine many (λ (g : ℕ). getD own g 0) trace row (getD piece i 0) (getD piece (i + 1) 0) _ (ap (numbered many own trace row) (sym (u .is)) ∙ e) }
+good-row : (gs : Gates) (trace row i : ℕ) (piece : List ℕ) → rowFault gs trace row (front rowSize (drop i piece)) ≡ 0 → Good gs trace row i piece
+good-row gs trace row i piece e =
+    let bad : rowFault gs trace row cut ≢ 0 = λ z. omega (arith, z, row-cut gs trace row) in
+    let u = uncut rowSize piece i (λ q. bad (ap (rowFault gs trace row) (sym q) ∙ e)) in
+    record { two = u .two; fits = u .fits; fine = row-fine gs trace row (getD piece i 0) (getD piece (i + 1) 0) _ (ap (rowFault gs trace row) (sym (u .is)) ∙ e) }
 
-good : (c : tie.Else1 Inv-loop μ-loop) → let a = c .before .before .before .before .before .before .args in let l = c .before .before .before .before .loop in Good (a .many) (a .own .now) (a .trace) (l .row) (l .i) (a .piece .now)
+good : (c : tie.Else1 Inv-loop μ-loop) → let a = c .before .before .before .before .before .before .args in let l = c .before .before .before .before .loop in Good (gatesBy (a .many) (a .own .now)) (a .trace) (l .row) (l .i) (a .piece .now)
 good c =
     let a = c .before .before .before .before .before .before .args in
     let l = c .before .before .before .before .loop in
-    good-row (a .many) (a .own .now) (a .trace) (l .row) (l .i) (a .piece .now) (sym (part (c .before)) ∙ c .if1 .left)
+    good-row (gatesBy (a .many) (a .own .now)) (a .trace) (l .row) (l .i) (a .piece .now) (sym (part (c .before)) ∙ c .if1 .left)
 
 returns : tie.Need-returns Inv-loop μ-loop
 returns c =
     let a = c .before .before .before .before .before .before .args in
     let l = c .before .before .before .before .loop in
     let e = part (c .before) in (
-      e ∙ sym (passed-found (a .many) (λ (g : ℕ). getD (a .own .now) g 0) (a .trace) (a .piece .now) (a .used .now) (a .count) (l .used) (l .row) (l .i) (l .inv) (omega arith) (λ z. c .if1 .taken (e ∙ z))),
+      e ∙ sym (passed-found (gatesBy (a .many) (a .own .now)) (a .trace) (a .piece .now) (a .used .now) (a .count) (l .used) (l .row) (l .i) (l .inv) (omega arith) (λ z. c .if1 .taken (e ∙ z))),
       λ z. absurd (c .if1 .taken z),
     )
 
@@ -120,18 +117,18 @@ loop-again c =
     let a = c .before .before .before .before .before .before .before .before .args in
     let l = c .before .before .before .before .before .before .loop in
     let t = good (c .before .before) in
-    passed-next (a .many) (λ (g : ℕ). getD (a .own .now) g 0) (a .trace) (a .piece .now) (a .used .now) (a .count) (l .used) (l .row) (l .i) (l .inv) (t .two) (t .fits) (t .fine)
+    passed-next (gatesBy (a .many) (a .own .now)) (a .trace) (a .piece .now) (a .used .now) (a .count) (l .used) (l .row) (l .i) (l .inv) (t .two) (t .fits) (t .fine)
 
 returns-2 : tie.Need-returns-2 Inv-loop μ-loop
 returns-2 c =
     let a = c .before .before .before .args in
     let l = c .before .loop in
-    let own : ℕ → ℕ = λ (g : ℕ). getD (a .own .now) g 0 in
+    let gs : Gates = gatesBy (a .many) (a .own .now) in
     let done : length (a .piece .now) ≤ l .i = c .loop-test .left in (
-      sym (passed-fine (a .many) own (a .trace) (a .piece .now) (a .used .now) (a .count) (l .used) (l .row) (l .i) (l .inv) done),
+      sym (passed-fine gs (a .trace) (a .piece .now) (a .used .now) (a .count) (l .used) (l .row) (l .i) (l .inv) done),
       λ _. (
-        passed-count (a .many) own (a .trace) (a .piece .now) (a .used .now) (a .count) (l .used) (l .row) (l .i) (l .inv) done,
-        passed-marks (a .many) own (a .trace) (a .piece .now) (a .used .now) (a .count) (l .used) (l .row) (l .i) (l .inv) done,
+        passed-count gs (a .trace) (a .piece .now) (a .used .now) (a .count) (l .used) (l .row) (l .i) (l .inv) done,
+        passed-marks gs (a .trace) (a .piece .now) (a .used .now) (a .count) (l .used) (l .row) (l .i) (l .inv) done,
       ),
     )
 

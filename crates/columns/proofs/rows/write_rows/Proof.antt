@@ -4,8 +4,8 @@ use borrow.Author.Needs.{needs}
 use mathlib.Core.Path.{refl, sym}
 use native.Mathlib.Omega.{arith}
 use Prim.Native.Nat.{ℕ, _+_, _-_, _<_, _≤_}
-use lib.ListN.{length, getD, drop, length-drop}
-use Rattle.columns.specs.Placed.{Stageable, Stages}
+use lib.ListN.{length, drop, length-drop}
+use Rattle.columns.specs.Placed.{toldBy, Stageable, Stages}
 use Rattle.columns.proofs.Parts.{rest-is}
 use Rattle.columns.proofs.StageLoop.{Writing, writing-begin, writing-room, writing-next, writing-lines}
 use Rattle.columns.proofs.rows.write_rows.Statement.{statement}
@@ -39,16 +39,14 @@ stage-rows-requires c κs =
     let s = c .before .before .before .before .before .before .before .before .before .before in
     let a = s .args in
     let l = c .before .before .before .before .before .loop in
-    let own : ℕ → ℕ = λ (g : ℕ). getD (a .gates .own) g 0 in
     let q : Stageable (a .height) (a .gates .steps) (drop (l .i) (a .piece .now)) =
     record {
-      many = a .gates .many;
-      own = a .gates .own;
+      gates = toldBy (a .gates);
       trace = a .trace;
       count = l .row;
       few = s .pre .0 .2;
       room = s .pre .1 .0;
-      no-fault = l .inv .fine (a .gates .many) own (s .pre .1 .1);
+      no-fault = l .inv .fine (toldBy (a .gates)) (s .pre .1 .1);
     } in
     ((s .pre .0 .1, l .inv .staged), rw (rest-is (a .piece .now) (l .i)) q)
 
@@ -72,13 +70,12 @@ turn c =
     let p = first c in
     let h : l .i < length (a .piece .now) = c .before .before .before .before .before .loop-test .taken in
     let n = length-drop (l .i) (a .piece .now) in
-    let own : ℕ → ℕ = λ (g : ℕ). getD (a .gates .own) g 0 in
     record {
       some = p .some (omega (arith, h, n)) .0;
       within = omega (arith, p .within, n, h);
       low = omega arith;
       few = p .few;
-      room = writing-room (a .height) (a .trace) (a .count) (a .piece .now) (a .constants .now) (a .gates .bits) (a .gates .steps) (l .constants) (l .stage) (l .row) (l .i) (l .inv) _ _ _ p (a .gates .many) own (s .pre .1 .1) h;
+      room = writing-room (a .height) (a .trace) (a .count) (a .piece .now) (a .constants .now) (a .gates .bits) (a .gates .steps) (l .constants) (l .stage) (l .row) (l .i) (l .inv) _ _ _ p (toldBy (a .gates)) (s .pre .1 .1) h;
     }
 
 slice-aggregate-write-lines : tie.Need-slice-aggregate-write-lines Inv-loop μ-loop
@@ -117,7 +114,7 @@ returns c =
     let l = c .before .loop in
     λ path q.
     writing-lines (a .height) (a .trace) (a .count) (a .piece .now) (a .constants .now) (a .gates .bits) (a .gates .steps) (l .constants) (l .stage) (l .row) (l .i) (l .inv) (c .loop-test .left)
-    (a .gates .many) (λ (g : ℕ). getD (a .gates .own) g 0) path (s .pre .1 .1) q
+    (toldBy (a .gates)) path (s .pre .1 .1) q
 
 pub write-rows-spec : {M : Type 1} → statement M
 write-rows-spec =

@@ -1,62 +1,135 @@
--- `columns::sections::sections_number` meets its contract: opening's number, else the sections' first fault, else the last tests.
+-- `columns::sections::sections_number` meets its contract: opening's number, else the sections' first fault, else the last tests. The plan's test is that of its
+-- gates' answer.
 -- Assumes nothing.
 use borrow.Author.Needs.{needs}
-use mathlib.Core.Path.{_≡_, sym, _∙_}
-use Rattle.base.specs.Firsts.{first-zero}
+use mathlib.Core.Path.{_≡_, refl, sym, _∙_}
+use mathlib.Core.Logic.{_≢_}
+use native.Mathlib.Omega.{arith}
+use lib.ListN.{length}
+use Rattle.base.specs.Firsts.{first-none, first-found}
+use Rattle.pieces.specs.Setting.{State}
+use Rattle.pieces.specs.Records.{rowsOf}
 use Rattle.pieces.specs.Opening.{openNumber}
+use Rattle.pieces.specs.Rows.{gatesOf, rowsFault}
+use Rattle.tree.specs.Plan.{planFault}
+use Rattle.tree.specs.SoundLaws.{sound}
 use Rattle.columns.specs.Intake.{settingOf, storeOf}
-use Rattle.columns.specs.SectionsLaws.{opened-fine, labels-long, number-open, number-pieces, number-last}
+use Rattle.columns.specs.IntakeLaws.{open-19}
+use Rattle.columns.specs.Sections.{laterFault, piecesFault}
+use Rattle.columns.specs.SectionsLaws.{labels-long, number-open, number-pieces, number-last, last-same}
+use Rattle.columns.proofs.RowLoop.{GatesOf, gates-of, gates-number, gates-fault}
 use Rattle.columns.proofs.sections.sections_number.Statement.{statement}
 use Rattle.columns.proofs.sections.sections_number.Tie as tie
 
-open-number-requires : tie.Need-open-number-requires
-open-number-requires c κs = search needs
+gate-rows-requires : tie.Need-gate-rows-requires
+gate-rows-requires c κs = search needs
 
 returns : tie.Need-returns
 returns c =
-    let a = c .before .before .before .before .before .before .before .before .before .before .args in
-    let q = a .plan in
+    let a = c .before .before .before .before .before .before .before .before .before .before .before .args in
+    let x = settingOf (a .plan) in
     let b = storeOf (a .constants .now) (a .copies .now) (a .scratch .now) (a .tables .now) in
-    let e = c .before .open-number .ensures in
-    e ∙ number-open (settingOf q) b (a .rows .now) (a .s-words .now) (a .cells .now) (a .table-words .now) (λ z. c .if1 .taken (e ∙ z))
+    let g = c .before .before .gate-rows in
+    let o = open-19 (a .plan) b (λ z. c .if1 .taken (gates-number (a .plan) (g .result) (g .ensures) .1 z)) in
+    sym o ∙ number-open x b (a .rows .now) (a .s-words .now) (a .cells .now) (a .table-words .now) (λ z. omega (arith, o, z))
 
--- opening is accepted
-opened : (c : tie.Else1) → let a = c .before .before .before .before .before .before .before .before .before .before .args in openNumber (settingOf (a .plan)) (storeOf (a .constants .now) (a .copies .now) (a .scratch .now) (a .tables .now)) ≡ 0
-opened c = sym (c .before .open-number .ensures) ∙ c .if1 .left
+-- the plan has no fault, so that its gates are as answered
+no-fault : (c : tie.Else1) → planFault (c .before .before .before .before .before .before .before .before .before .before .before .args .plan) ≡ 0
+no-fault c =
+    let g = c .before .before .gate-rows in
+    gates-number (c .before .before .before .before .before .before .before .before .before .before .before .args .plan) (g .result) (g .ensures) .0 (c .if1 .left)
 
-pieces-fault-requires : tie.Need-pieces-fault-requires
-pieces-fault-requires c κs = let a = c .before .before .before .before .before .before .before .before .before .before .args in opened-fine (a .plan) (storeOf (a .constants .now) (a .copies .now) (a .scratch .now) (a .tables .now)) (opened c)
+gates : (c : tie.Else1) → GatesOf (c .before .before .before .before .before .before .before .before .before .before .before .args .plan) (c .before .before .gate-rows .result)
+gates c = gates-of (c .before .before .before .before .before .before .before .before .before .before .before .args .plan) (c .before .before .gate-rows .result) (no-fault c) (c .before .before .gate-rows .ensures)
+
+open-number-requires : tie.Need-open-number-requires
+open-number-requires c κs = no-fault c
 
 returns-2 : tie.Need-returns-2
 returns-2 c =
-    let a = c .before .before .before .before .before .before .before .before .before .before .before .before .args in
-    let q = a .plan in
+    let a = c .before .before .before .before .before .before .before .before .before .before .before .before .before .args in
+    let x = settingOf (a .plan) in
     let b = storeOf (a .constants .now) (a .copies .now) (a .scratch .now) (a .tables .now) in
-    let e = c .before .pieces-fault .ensures in
-    e ∙ number-pieces (settingOf q) b (a .rows .now) (a .s-words .now) (a .cells .now) (a .table-words .now) (opened (c .before .before)) (labels-long q) (λ z. c .if2 .taken (e ∙ z))
+    let e = c .before .open-number .ensures in
+    e ∙ number-open x b (a .rows .now) (a .s-words .now) (a .cells .now) (a .table-words .now) (λ z. c .if2 .taken (e ∙ z))
 
-last-tests-requires : tie.Need-last-tests-requires
-last-tests-requires c κs =
-    let a = c .before .before .before .before .before .before .before .before .before .before .before .before .args in
-    let q = a .plan in
-    let b = storeOf (a .constants .now) (a .copies .now) (a .scratch .now) (a .tables .now) in
-    (opened-fine q b (opened (c .before .before)), first-zero _ _ (sym (c .before .pieces-fault .ensures) ∙ c .if2 .left) .0)
+-- opening is accepted
+opened : (c : tie.Else2) → let a = c .before .before .before .before .before .before .before .before .before .before .before .before .before .args in openNumber (settingOf (a .plan)) (storeOf (a .constants .now) (a .copies .now) (a .scratch .now) (a .tables .now)) ≡ 0
+opened c = sym (c .before .open-number .ensures) ∙ c .if2 .left
+
+test-rows-requires : tie.Need-test-rows-requires
+test-rows-requires c κs =
+    let w = sound (c .before .before .before .before .before .before .before .before .before .before .before .before .before .before .before .before .args .plan) (no-fault (c .before .before .before .before .before)) in
+    (omega (arith, w .few-gates, gates (c .before .before .before .before .before) .alike .many-same), omega arith, w .ranges .long)
+
+-- the rows' number: the gates' constants are the plan's
+in-rows : (c : tie.After-test-rows) → let a = c .before .before .before .before .before .before .before .before .before .before .before .before .before .before .before .before .before .args in c .test-rows .result .number ≡ rowsFault (gatesOf (settingOf (a .plan))) (a .plan .trace) 0 (rowsOf (a .rows .now))
+in-rows c =
+    let a = c .before .before .before .before .before .before .before .before .before .before .before .before .before .before .before .before .before .args in
+    c .test-rows .ensures .0 ∙ gates-fault (a .plan) (c .before .before .before .before .before .before .before .before .gate-rows .result) (gates (c .before .before .before .before .before .before)) (a .plan .trace) 0 (rowsOf (a .rows .now))
 
 returns-3 : tie.Need-returns-3
 returns-3 c =
-    let a = c .before .before .before .before .before .before .before .before .before .before .before .before .before .args in
-    let q = a .plan in
+    let a = c .before .before .before .before .before .before .before .before .before .before .before .before .before .before .before .before .before .before .before .args in
+    let x = settingOf (a .plan) in
     let b = storeOf (a .constants .now) (a .copies .now) (a .scratch .now) (a .tables .now) in
-    c .last-tests .ensures (a .table-words .now)
-    ∙ number-last (settingOf q) b (a .rows .now) (a .s-words .now) (a .cells .now) (a .table-words .now) (opened (c .before .before .before)) (labels-long q) (sym (c .before .before .pieces-fault .ensures) ∙ c .before .if2 .left)
+    let f = rowsFault (gatesOf x) (x .trace) 0 (rowsOf (a .rows .now)) in
+    let e = in-rows (c .before .before) in
+    let d : f ≢ 0 = λ z. c .if3 .taken (e ∙ z) in
+    let first = first-found f (laterFault x (a .s-words .now) (a .cells .now) (a .table-words .now)) d in
+    e ∙ sym first ∙ number-pieces x b (a .rows .now) (a .s-words .now) (a .cells .now) (a .table-words .now) (opened (c .before .before .before .before .before .before)) (labels-long (a .plan)) (λ z. d (sym first ∙ z))
+
+-- rows without a fault: the first fault of all is that of the later sections
+later : (c : tie.Else3) → let a = c .before .before .before .before .before .before .before .before .before .before .before .before .before .before .before .before .before .before .before .args in let x = settingOf (a .plan) in
+    piecesFault x (a .rows .now) (a .s-words .now) (a .cells .now) (a .table-words .now) ≡ laterFault x (a .s-words .now) (a .cells .now) (a .table-words .now)
+later c = first-none _ _ (sym (in-rows (c .before .before)) ∙ c .if3 .left)
+
+later-fault-requires : tie.Need-later-fault-requires
+later-fault-requires c κs = no-fault (c .before .before .before .before .before .before .before .before)
+
+returns-4 : tie.Need-returns-4
+returns-4 c =
+    let a = c .before .before .before .before .before .before .before .before .before .before .before .before .before .before .before .before .before .before .before .before .before .args in
+    let x = settingOf (a .plan) in
+    let b = storeOf (a .constants .now) (a .copies .now) (a .scratch .now) (a .tables .now) in
+    let e = c .before .later-fault .ensures ∙ sym (later (c .before .before)) in
+    e ∙ number-pieces x b (a .rows .now) (a .s-words .now) (a .cells .now) (a .table-words .now) (opened (c .before .before .before .before .before .before .before .before)) (labels-long (a .plan)) (λ z. c .if4 .taken (e ∙ z))
+
+last-tests-requires : tie.Need-last-tests-requires
+last-tests-requires c κs = no-fault (c .before .before .before .before .before .before .before .before .before .before)
+
+returns-5 : tie.Need-returns-5
+returns-5 c =
+    let a = c .before .before .before .before .before .before .before .before .before .before .before .before .before .before .before .before .before .before .before .before .before .before .args in
+    let x = settingOf (a .plan) in
+    let b = storeOf (a .constants .now) (a .copies .now) (a .scratch .now) (a .tables .now) in
+    let t = c .before .before .before .before .before .test-rows in
+    let m = t .ensures .1 (c .before .before .before .if3 .left) in
+    let s : State =
+    record {
+      rowCount = t .result .rows;
+      wordCount = length (a .s-words .now);
+      cellCount = length (a .cells .now);
+      tableCount = 0;
+      stacked = 0;
+      used = t .last .1 .1 .1 .1 .1 .0;
+      phase = 1;
+    } in
+    c .last-tests .ensures
+    ∙ last-same x (a .rows .now) (a .s-words .now) (a .cells .now) (a .table-words .now) s (m .0) refl refl (m .1)
+    ∙ number-last x b (a .rows .now) (a .s-words .now) (a .cells .now) (a .table-words .now) (opened (c .before .before .before .before .before .before .before .before .before)) (labels-long (a .plan)) (later (c .before .before .before) ∙ sym (c .before .before .later-fault .ensures) ∙ c .before .if4 .left)
 
 pub sections-number-spec : {M : Type 1} → statement M
 sections-number-spec =
     tie.close
     (tie.spec
-    open-number-requires
+    gate-rows-requires
     returns
-    pieces-fault-requires
+    open-number-requires
     returns-2
+    test-rows-requires
+    returns-3
+    later-fault-requires
+    returns-4
     last-tests-requires
-    returns-3)
+    returns-5)

@@ -9,7 +9,7 @@ use native.Mathlib.Nat.{mul-le-mul}
 use Prim.Native.Nat.{ℕ, _+_, _*_, _<_, _≤_}
 use lib.ListN.{length, getD}
 use Rattle.pieces.specs.Setting.{cols, stands, constantRoom, copyRoom, specialRoom}
-use Rattle.pieces.specs.NumberLaws.{Stood, stood}
+use Rattle.pieces.specs.NumberLaws.{Counted, stood}
 use Rattle.columns.specs.Intake.{settingOf, stateOf}
 use Rattle.tree.specs.SoundLaws.{Sound, sound}
 use Rattle.pieces.specs.Cells.{cellsFault, cellsNumber}
@@ -31,8 +31,8 @@ fine c =
     let q = c .before .before .before .before .before .args .self .plan in
     sound q (plan-fine (c .before .before .before .before .before .args .self) (upright c))
 
-counts : (c : tie.Then1) → Stood (settingOf (c .before .before .before .before .before .args .self .plan)) (stateOf (c .before .before .before .before .before .args .self))
-counts c = stood (settingOf (c .before .before .before .before .before .args .self .plan)) (stateOf (c .before .before .before .before .before .args .self)) (upright c)
+counts : (c : tie.Then1) → Counted (settingOf (c .before .before .before .before .before .args .self .plan)) (stateOf (c .before .before .before .before .before .args .self))
+counts c = stood (settingOf (c .before .before .before .before .before .args .self .plan)) (stateOf (c .before .before .before .before .before .args .self)) (upright c) .counts
 
 small : (a n b : ℕ) → a ≤ b → n ≤ 65536 → a * n ≤ b * 65536
 small a n b h k = mul-le-mul h k

@@ -1,4 +1,4 @@
--- `columns::intake::room_number` meets its contract: 10 for each of the four buffers.
+-- `columns::rooms::room_number` meets its contract: 10 for each of the four buffers.
 -- Assumes nothing.
 use borrow.Author.Needs.{needs}
 use mathlib.Core.Path.{sym}
@@ -7,8 +7,8 @@ use Rattle.base.specs.Pick.{pick-yes, pick-no}
 use Rattle.pieces.specs.Opening.{roomToOpen}
 use Rattle.columns.specs.Intake.{settingOf, storeOf}
 use Rattle.columns.specs.IntakeLaws.{short-constants, short-copies, short-scratch, short-tables, long-enough}
-use Rattle.columns.proofs.intake.room_number.Statement.{statement}
-use Rattle.columns.proofs.intake.room_number.Tie as tie
+use Rattle.columns.proofs.rooms.room_number.Statement.{statement}
+use Rattle.columns.proofs.rooms.room_number.Tie as tie
 
 rooms-of-requires : tie.Need-rooms-of-requires
 rooms-of-requires c κs = search needs

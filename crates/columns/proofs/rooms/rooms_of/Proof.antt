@@ -1,19 +1,18 @@
--- `columns::intake::rooms_of` meets its contract: a sound plan's numbers are small, so their products fit a word.
+-- `columns::rooms::rooms_of` meets its contract: a sound plan's numbers are small, so their products fit a word.
 -- Assumes nothing.
 use borrow.Author.Needs.{needs}
-use mathlib.Core.Path.{_≡_, refl, sym, ap, _∙_}
+use mathlib.Core.Path.{_≡_, refl, _∙_}
 use mathlib.Core.Logic.{⊎-elim}
 use native.Mathlib.Omega.{arith}
-use Prim.Native.Nat.{ℕ, _+_, _*_, _<_, _≤_}
+use Prim.Native.Nat.{ℕ, _+_, _*_, _≤_}
 use borrow.Author.Tests.{lt-ltb, le-ltb}
 use native.Mathlib.Nat.{mul-le-mul}
 use lib.Dec.{ltb}
 use Rattle.base.specs.Pick.{pick}
 use Rattle.parameters.specs.Lookup.{modeOf, widthOf}
 use Rattle.tree.specs.SoundLaws.{Sound, sound}
-use borrow.Author.Needs.{needs}
-use Rattle.columns.proofs.intake.rooms_of.Statement.{statement}
-use Rattle.columns.proofs.intake.rooms_of.Tie as tie
+use Rattle.columns.proofs.rooms.rooms_of.Statement.{statement}
+use Rattle.columns.proofs.rooms.rooms_of.Tie as tie
 
 mode-requires : tie.Need-mode-requires
 mode-requires c κs = search needs
