@@ -9,6 +9,7 @@ use native.Mathlib.Numerals.{add-one}
 use native.Mathlib.Omega.{arith}
 use lib.ListN.{length, getD, set, take, drop, length-append, length-drop}
 use lib.Seq.{drop-set-add, drop-drop, append-snoc}
+use Rattle.base.specs.Limits.{mostGates}
 use Rattle.base.specs.Drops.{drop-none}
 use Rattle.pieces.specs.Records.{Read, whole, cut, rowSize, readBy, rowsOf}
 use Rattle.pieces.specs.Writing.{put, padded, putLines}
@@ -112,7 +113,7 @@ module _ (height : ℕ) (bits steps piece : List ℕ) where
   pub record Front (i : ℕ) : Type 0 where
     pub two : i + 1 < length piece
     pub fits : getD piece (i + 1) 0 ≤ length piece - (i + 2)
-    pub known : getD piece i 0 < 128
+    pub known : getD piece i 0 < mostGates
     pub room : getD steps (getD piece i 0) 0 + getD piece (i + 1) 0 ≤ height
 
   module _ (stage : List ℕ) (rows i : ℕ) (v : Staging stage rows i) where

@@ -5,6 +5,7 @@ use mathlib.Core.Path.{_≡_}
 use mathlib.Core.List.{List, _++_, map}
 use Prim.Native.Nat.{ℕ, _+_, _≤_, _<_}
 use lib.ListN.{length, getD, drop}
+use Rattle.base.specs.Limits.{mostGates}
 use Rattle.pieces.specs.Records.{Read, rowsOf}
 use Rattle.pieces.specs.Rows.{Gates, rowsFault, rowLines}
 use Rattle.pieces.specs.Writing.{padded}
@@ -33,7 +34,7 @@ pub record Stageable (height : ℕ) (steps piece : List ℕ) : Type 0 where
   pub gates : Gates
   pub trace : ℕ
   pub count : ℕ
-  pub few : gates .many ≤ 128
+  pub few : gates .many ≤ mostGates
   pub room : Fits gates height steps
   pub no-fault : rowsFault gates trace count (rowsOf piece) ≡ 0
 

@@ -7,10 +7,12 @@ ghost use lib.ListN.{length};
 ghost use Rattle.base.specs.Quarters.{Fourfold};
 ghost use Rattle.columns.specs.Quick.{Within};
 ghost use Rattle.pieces.specs.Finishing.{allUsed, variableFine, scratchFine, writeBack, finishFrom};
+ghost use Rattle.base.specs.Limits.{mostGates};
+use selector::Marks;
 
 // Whether each of the `many` gates is in some row.
-pub(crate) fn all_used(many: u64, used: &[u64; 128]) -> bool
-    requires { ⌜ many ≤ 128 ⌝ }
+pub(crate) fn all_used(many: u64, used: &Marks) -> bool
+    requires { ⌜ many ≤ mostGates ⌝ }
     ensures { λ r. ⌜ r ≡ allUsed many (now (used .entry)) ⌝ }
 {
     let mut g: u64 = 0;

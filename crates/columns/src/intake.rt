@@ -21,6 +21,8 @@ use crate::s_words::s_words_fault;
 use crate::tables::MOST_TABLES;
 use crate::tables::tables_fault;
 use crate::tables::write_tables;
+use selector::MOST_GATES;
+use selector::Marks;
 use tree::plan::Plan;
 use tree::plan::parts_fault;
 
@@ -40,7 +42,7 @@ pub struct Intake {
     pub cells: u64,
     pub tables: u64,
     pub table_rows: u64,
-    pub used: [u64; 128],
+    pub used: Marks,
     pub phase: u64,
 }
 
@@ -71,7 +73,7 @@ impl Intake {
             cells: 0,
             tables: 0,
             table_rows: 0,
-            used: [0; 128],
+            used: [0; MOST_GATES],
             phase: phase,
         }
     }

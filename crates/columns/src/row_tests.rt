@@ -6,12 +6,14 @@ ghost use Rattle.pieces.specs.Records.{rowSize, rowsOf};
 ghost use Rattle.pieces.specs.Front.{front};
 ghost use Rattle.pieces.specs.Rows.{rowFault, rowsFault, marked};
 ghost use Rattle.columns.specs.Placed.{gatesBy};
+ghost use Rattle.base.specs.Limits.{mostGates};
 use crate::records::all_below;
+use selector::Marks;
 
 // The number of the record at the front of the words, 0 where it has no fault. `own` has the
 // number of constants of each of the `many` gates.
-fn row_fault(many: u64, own: &[u64; 128], trace: u64, row: u64, words: &[u64]) -> u64
-    requires { ⌜ many ≤ 128 ⌝ }
+fn row_fault(many: u64, own: &Marks, trace: u64, row: u64, words: &[u64]) -> u64
+    requires { ⌜ many ≤ mostGates ⌝ }
     ensures { λ r. ⌜ r ≡ rowFault (gatesBy many (now (own .entry))) trace row (front rowSize (now (words .entry))) ⌝ }
 {
     if words.len() < 2 {
@@ -50,13 +52,13 @@ pub struct Tested {
 // marked on the way, in one walk with the test; the marks mean something only where there is no fault.
 pub(crate) fn test_rows(
     many: u64,
-    own: &[u64; 128],
+    own: &Marks,
     trace: u64,
     count: u64,
     piece: &[u64],
-    used: &mut [u64; 128],
+    used: &mut Marks,
 ) -> Tested
-    requires { ⌜ (many ≤ 128) × (count ≤ trace) × (trace ≤ 65536) ⌝ }
+    requires { ⌜ (many ≤ mostGates) × (count ≤ trace) × (trace ≤ 65536) ⌝ }
     ensures { λ r. ⌜ r .number ≡ rowsFault (gatesBy many (now (own .entry))) trace count (rowsOf (now (piece .entry))) ⌝ }
     ensures { λ r. ⌜ (r .number ≡ 0 → (r .rows ≡ count + length (rowsOf (now (piece .entry)))) × (now (used .exit) ≡ marked (now (used .entry)) (rowsOf (now (piece .entry))))) ⌝ }
 {

@@ -8,10 +8,12 @@ ghost use Rattle.pieces.specs.Writing.{put, padded, putLines};
 ghost use Rattle.pieces.specs.Rows.{rowsFault, rowLines};
 ghost use Rattle.base.specs.Digits.{digits};
 ghost use Rattle.columns.specs.Placed.{toldBy, Spells, Fits, Stageable, Stages};
+ghost use Rattle.base.specs.Limits.{mostGates};
 use crate::records::write_lines;
 use crate::records::write_path;
 use crate::records::write_same;
 use crate::records::write_words;
+use selector::Marks;
 use tree::gate_rows::GateRows;
 
 // One row's words at place `at` of the stage: the path's digits, the constants, then zeros.
@@ -35,8 +37,8 @@ pub struct Staged {
 // The first records of a piece without a fault, at the most 32, as lines of the stage.
 fn stage_rows(
     height: u64,
-    bits: &[u64; 128],
-    steps: &[u64; 128],
+    bits: &Marks,
+    steps: &Marks,
     piece: &[u64],
     stage: &mut [u64; 2048],
 ) -> Staged
@@ -83,7 +85,7 @@ pub(crate) fn write_rows(
     piece: &[u64],
     constants: &mut [u64],
 )
-    requires { ⌜ (trace ≤ 65536) × (height ≤ 64) × (gates .many ≤ 128) × (height * trace ≤ length (now constants)) ⌝ }
+    requires { ⌜ (trace ≤ 65536) × (height ≤ 64) × (gates .many ≤ mostGates) × (height * trace ≤ length (now constants)) ⌝ }
     requires { ⌜ Fits (toldBy gates) height (gates .steps) ⌝ }
     requires { ⌜ rowsFault (toldBy gates) trace count (rowsOf (now piece)) ≡ 0 ⌝ }
     ensures { λ _. ⌜ ((path : ℕ → List ℕ) → Spells (gates .many) path (gates .bits) (gates .steps) → now (constants .exit) ≡ putLines height trace count (rowLines path (rowsOf (now (piece .entry)))) (now (constants .entry))) ⌝ }

@@ -14,6 +14,7 @@ use crate::rooms::room_number;
 use crate::row_tests::test_rows;
 use crate::s_words::s_words_fault;
 use crate::tables::tables_fault;
+use selector::MOST_GATES;
 use tree::plan::Plan;
 
 // Opening's number for a sound plan: 10 or 9.
@@ -93,7 +94,7 @@ pub fn sections_number(
         return opening;
     }
     let own = gates.own;
-    let mut used = [0; 128];
+    let mut used = [0; MOST_GATES];
     let tested = test_rows(gates.many, &own, plan.trace, 0, rows, &mut used);
     if tested.number != 0 {
         return tested.number;

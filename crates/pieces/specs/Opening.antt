@@ -30,7 +30,7 @@ abbrev pub openStore : Setting → Store → Store
 openStore x b =
     record { constants = cleared (constantRoom x) (b .constants); cells = openCells x (b .cells); tables = cleared (tableRoom x) (b .tables) }
 
--- a state before its first piece, in a phase: a mark for each of 128 gates, none made
+-- a state before its first piece, in a phase: a mark for each gate that may be listed, none made
 abbrev pub startState : ℕ → State
 startState phase =
     record { rowCount = 0; wordCount = 0; cellCount = 0; tableCount = 0; stacked = 0; used = replicate mostGates 0; phase = phase }
