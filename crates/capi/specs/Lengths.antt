@@ -61,7 +61,7 @@ pub record Long (s : Intake) : Type 0 where
   pub plan : LongPlan (s .plan)
   pub used : length (s .used) ≡ mostGates
 
-own-long : (ws : List ℕ) → Long (intakeOf ws)
+pub own-long : (ws : List ℕ) → Long (intakeOf ws)
 own-long ws = record { plan = own-plan ws; used = used-long ws }
 
 -- marks stay as many

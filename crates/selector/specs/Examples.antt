@@ -17,7 +17,7 @@ unfolding degreeAt
 p5 = (refl, refl, refl)
 
 -- the paths of the gates from g on, as many as the list has
-unfoldable pathsFrom : ℕ → List (List ℕ) → Tree → List (List ℕ)
+unfoldable pub pathsFrom : ℕ → List (List ℕ) → Tree → List (List ℕ)
 pathsFrom g [] t = []
 pathsFrom g (p ∷ ps) t = pathOf g t ∷ pathsFrom (suc g) ps t
 

@@ -19,7 +19,7 @@ abbrev pub wordsLeft : Words → Store → Store
 wordsLeft w b = stageLeft (parametersAt (w .parameters)) (w .gates) (w .rows) (w .sWords) (w .cells) (w .tables) b
 
 -- "20 .., tested over the whole input before all else": a refusal of the listing writes no word and hands back a plan of zeros
-abbrev answerBy : Reading → Store → Staged
+abbrev pub answerBy : Reading → Store → Staged
 answerBy (whole w) b = wordsAnswer w b
 answerBy (refused n) b = refusedBy n
 

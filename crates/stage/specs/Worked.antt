@@ -26,7 +26,7 @@ unfoldable pub listing : ℕ → ℕ → List ℕ
 listing n kind =
     8 ∷ n ∷ 2 ∷ 1 ∷ 0 ∷ 2 ∷ 0 ∷ 0 ∷ 0 ∷ 2 ∷ kind ∷ 2 ∷ 1 ∷ 1 ∷ 0 ∷ 0 ∷ 2 ∷ 0 ∷ 1 ∷ 5 ∷ 1 ∷ 0 ∷ 0 ∷ 4 ∷ 0 ∷ 1 ∷ 1 ∷ 9223372036854775808 ∷ 0 ∷ []
 
-abbrev Refuses : List ℕ → ℕ → Type 0
+abbrev pub Refuses : List ℕ → ℕ → Type 0
 Refuses ws n = (listedAnswer ws old ≡ refusedBy n) × (listedLeft ws old ≡ old)
 
 pub record Refused-listings : Type 0 where
