@@ -1,6 +1,6 @@
 -- 01, 'When a call is turned down' and 'Gates and tree': what planning, the test for a made-up plan, paths and the table-id index answer, for any arguments.
 --
--- Main definitions: `planNumber`, `planned`, `partsFault`, `planFault`, `pathAnswer`, `gateRowsAnswer`, `tableIdAnswer`.
+-- Main definitions: `planNumber`, `planned`, `planIn`, `planFault`, `pathAnswer`, `gateRowsAnswer`, `tableIdAnswer`.
 use Prim.Native.Nat.{_*_, ℕ}
 use lib.Dec.{eqb, leb, ltb}
 use lib.ListN.{drop, length, replicate, take}
@@ -25,10 +25,10 @@ use Rattle.parameters.specs.declared.lookup.LookupParameters.the-variants.{NoLo
 use Rattle.tree.specs.declared.gate_rows.GateRows.{GateRows}
 use Rattle.tree.specs.declared.nodes.Shape.{Shape}
 use Rattle.parameters.specs.declared.parameters.Parameters.{Parameters}
+use Rattle.tree.specs.declared.plan.Outline.{Outline}
 use Rattle.tree.specs.declared.plan.Path.{Path}
 use Rattle.tree.specs.declared.plan.Plan.{Plan}
 use Rattle.tree.specs.declared.plan.TableId.{TableId}
-use Rattle.tree.specs.declared.plan.Told.{Told}
 use Rattle.tree.specs.declared.planning.Planned.{Planned}
 
 -- "Refused planning, path or opening hands back a plan, path or state of zeros"
@@ -97,19 +97,55 @@ planned ps gs = pick (eqb (planNumber ps gs) 0) (planWith ps gs (shapeOf (extraO
 abbrev pub planAnswer : Parameters → List ℕ → Planned
 planAnswer ps gs = record { number = planNumber ps gs; plan = planned ps gs }
 
--- the parameter words of a plan
-abbrev pub parametersOf : Plan → Parameters
-parametersOf p =
+-- a plan without its words of gates and nodes, and with them again
+abbrev pub outlineOf : Plan → Outline
+outlineOf p =
     record {
       trace = p .trace;
       copy = p .copy;
       allowed = p .allowed;
       specialised = p .specialised;
       variables = p .variables;
-      mode = modeOf (p .lookup);
-      width = widthOf (p .lookup);
-      share = flagOf (shareOf (p .lookup));
+      lookup = p .lookup;
+      «gate_count» = p .«gate_count»;
+      «node_count» = p .«node_count»;
+      told = record { degree = p .degree; constants = p .constants; factor = p .factor };
     }
+
+abbrev pub planIn : Outline → List ℕ → List ℕ → Plan
+planIn o gs ns =
+    record {
+      trace = o .trace;
+      copy = o .copy;
+      allowed = o .allowed;
+      specialised = o .specialised;
+      variables = o .variables;
+      lookup = o .lookup;
+      gates = gs;
+      «gate_count» = o .«gate_count»;
+      nodes = ns;
+      «node_count» = o .«node_count»;
+      degree = o .told .degree;
+      constants = o .told .constants;
+      factor = o .told .factor;
+    }
+
+-- the parameter words of a plan
+abbrev pub parametersIn : Outline → Parameters
+parametersIn o =
+    record {
+      trace = o .trace;
+      copy = o .copy;
+      allowed = o .allowed;
+      specialised = o .specialised;
+      variables = o .variables;
+      mode = modeOf (o .lookup);
+      width = widthOf (o .lookup);
+      share = flagOf (shareOf (o .lookup));
+    }
+
+abbrev pub parametersOf : Plan → Parameters
+parametersOf p = parametersIn (outlineOf p)
 
 -- the gate words of a plan
 abbrev pub gatesGiven : Plan → List ℕ
@@ -119,25 +155,18 @@ gatesGiven p = take (p .«gate_count» * gateWords) (p .gates)
 abbrev pub planExtra : Plan → ℕ
 planExtra p = extraOf (modeOf (p .lookup))
 
--- what a plan says of its tree
-abbrev pub toldOf : Plan → Told
-toldOf p = record { degree = p .degree; constants = p .constants; factor = p .factor }
-
 -- "19 is given for a made-up plan: parameters or gates that 1 to 7 turn down, a child not after its parent or past the nodes, a leaf below depth 31, leaves
--- other than each placed gate just once, or D, K or F not the tree's." Over a plan's parts; gate words that are not there are a fault too, which a plan's own
--- array of `gateSlots` never has.
-unfoldable pub partsFault : Parameters → List ℕ → ℕ → List ℕ → ℕ → Told → ℕ
-partsFault ps gs n nodes m w =
-    pick (eqb (parametersNumber ps) 0)
-    (pick (leb 1 n)
-    (pick (leb n mostGates)
-    (pick (leb (n * gateWords) (length gs))
-    (pick (eqb (gatesNumber (ps .mode) (ps .allowed) (take (n * gateWords) gs) n) 0)
-    (pick (nodesFit (extraOf (ps .mode)) (take (n * gateWords) gs) n nodes m (w .degree) (w .constants) (w .factor)) 0 19)
-    19) 19) 19) 19) 19
-
+-- other than each placed gate just once, or D, K or F not the tree's." Gate words that are not there are a fault too, which a plan's own array of `gateSlots`
+-- never has.
 unfoldable pub planFault : Plan → ℕ
-planFault p = partsFault (parametersOf p) (p .gates) (p .«gate_count») (p .nodes) (p .«node_count») (toldOf p)
+planFault p =
+    pick (eqb (parametersNumber (parametersOf p)) 0)
+    (pick (leb 1 (p .«gate_count»))
+    (pick (leb (p .«gate_count») mostGates)
+    (pick (leb (p .«gate_count» * gateWords) (length (p .gates)))
+    (pick (eqb (gatesNumber (modeOf (p .lookup)) (p .allowed) (gatesGiven p) (p .«gate_count»)) 0)
+    (pick (nodesFit (planExtra p) (gatesGiven p) (p .«gate_count») (p .nodes) (p .«node_count») (p .degree) (p .constants) (p .factor)) 0 19)
+    19) 19) 19) 19) 19
 
 -- the path of a gate in a plan's tree; a gate at no leaf, a dropped one, has the empty path
 abbrev pub pathIn : Option Tree → ℕ → List ℕ

@@ -28,7 +28,7 @@ use Rattle.selector.specs.Tree.{Tree, leaf}
 use Rattle.parameters.specs.Lookup.{modeOf}
 use Rattle.parameters.specs.Parameters.{flagNumber, lookupOf, parametersNumber, rangeNumber}
 use Rattle.parameters.specs.ParametersLaws.{InRange, in-range, lookup-words}
-use Rattle.tree.specs.Plan.{gatesGiven, gateArray, parametersOf, partsFault, planAnswer, planExtra, planFault, planNumber, planWith, planned, treeFor, treeNumber, wordsNumber, zeroPlan}
+use Rattle.tree.specs.Plan.{gatesGiven, gateArray, parametersOf, planAnswer, planExtra, planFault, planNumber, planWith, planned, treeFor, treeNumber, wordsNumber, zeroPlan}
 use Rattle.tree.specs.Shapes.{shapeOf}
 use Rattle.tree.specs.declared.nodes.Shape.{Shape}
 use Rattle.parameters.specs.declared.parameters.Parameters.{Parameters}
@@ -46,7 +46,7 @@ pub record Faultless (p : Plan) : Type 0 where
   pub nodes : Sturdy (planExtra p) (gatesGiven p) (p .«gate_count») (p .nodes) (p .«node_count») (p .degree) (p .constants) (p .factor)
 
 pub fault-none : (p : Plan) → planFault p ≡ 0 → Faultless p
-unfolding planFault partsFault
+unfolding planFault
 fault-none p e =
     let n = p .«gate_count» in
     let gs = gatesGiven p in
@@ -67,7 +67,7 @@ fault-none p e =
 
 -- a plan of zeros is a made-up plan
 pub zero-fault : planFault zeroPlan ≡ 19
-unfolding planFault partsFault
+unfolding planFault
 zero-fault = by (eqb (parametersNumber (parametersOf zeroPlan)) 0)
   where
     by : (t : Bool) → _≡_ {A = ℕ} (pick t 19 19) 19
@@ -189,7 +189,7 @@ module _ (ps : Parameters) (gs : List ℕ) where
       }
 
   faultless : (w : Accepted ps gs) (t : Tree) → treeFor ps gs ≡ some t → planFault (planWith ps gs (shapeOf (extraOf (ps .mode)) gs (some t))) ≡ 0
-  unfolding planFault partsFault
+  unfolding planFault
   faultless w t e =
       let s = shapeOf (extraOf (ps .mode)) gs (some t) in
       let l = lookup-words ps (w .in-ranges) in

@@ -1,7 +1,7 @@
 // Plans by value: the test for a made-up plan, which is also there for a plan's parts, paths, what rows need of the gates, and the table-id index.
 ghost use mathlib.Core.Path.{_≡_};
 ghost use Rattle.parameters.specs.Lookup.{flagOf};
-ghost use Rattle.tree.specs.Plan.{zeroPlan, parametersOf, toldOf, partsFault, planFault, pathAnswer, gateRowsAnswer, tableIdAnswer};
+ghost use Rattle.tree.specs.Plan.{zeroPlan, parametersIn, outlineOf, planIn, planFault, pathAnswer, gateRowsAnswer, tableIdAnswer};
 use crate::gate_rows::GateRows;
 use crate::gate_rows::list_gates;
 use crate::gate_rows::no_gate_rows;
@@ -45,6 +45,19 @@ pub struct Told {
     pub factor: u64,
 }
 
+// A plan without its words of gates and nodes, which are lent beside it.
+pub struct Outline {
+    pub trace: u64,
+    pub copy: u64,
+    pub allowed: u64,
+    pub specialised: u64,
+    pub variables: u64,
+    pub lookup: LookupParameters,
+    pub gate_count: u64,
+    pub node_count: u64,
+    pub told: Told,
+}
+
 // A refusal number, or 0, and a path: bit i, from the least, is step i from the root.
 pub struct Path {
     pub number: u64,
@@ -69,20 +82,37 @@ fn flag_of(share: bool) -> u64
     0
 }
 
-// 19 for the parts of a made-up plan, else 0. The arrays are lent, so that a caller who holds them hands over no copy of nine kilobytes.
-pub fn parts_fault<'a>(
-    parameters: Parameters,
-    gates: &'a [u64],
-    gate_count: u64,
-    nodes: &'a Nodes,
-    node_count: u64,
-    told: Told,
-) -> u64
-    ensures { λ r. ⌜ r ≡ partsFault parameters (now (gates .entry)) «gate_count» (now (nodes .entry)) «node_count» told ⌝ }
+impl Outline {
+    // The parameter words of a plan.
+    pub fn parameters(self) -> Parameters
+        ensures { λ r. ⌜ r ≡ parametersIn self ⌝ }
+    {
+        let lookup = self.lookup;
+        let mode = lookup.mode();
+        let width = lookup.lookup_width();
+        let share = flag_of(lookup.share_table_id());
+        Parameters {
+            trace: self.trace,
+            copy: self.copy,
+            allowed: self.allowed,
+            specialised: self.specialised,
+            variables: self.variables,
+            mode: mode,
+            width: width,
+            share: share,
+        }
+    }
+}
+
+// 19 for the parts of a made-up plan, else 0. The words are lent: a caller who holds them hands over no copy of nine kilobytes.
+pub fn parts_fault<'a>(outline: Outline, gates: &'a [u64], nodes: &'a Nodes) -> u64
+    ensures { λ r. ⌜ r ≡ planFault (planIn outline (now (gates .entry)) (now (nodes .entry))) ⌝ }
 {
+    let parameters = outline.parameters();
     if parameters.number() != 0 {
         return 19;
     }
+    let gate_count = outline.gate_count;
     if gate_count < 1 {
         return 19;
     }
@@ -99,10 +129,44 @@ pub fn parts_fault<'a>(
         return 19;
     }
     let extra = extra_of(parameters.mode);
-    if nodes_fit(words, nodes, many, node_count as usize, extra, told) {
+    if nodes_fit(
+        words,
+        nodes,
+        many,
+        outline.node_count as usize,
+        extra,
+        outline.told,
+    ) {
         return 0;
     }
     19
+}
+
+// What rows need of each gate of a plan, from its parts: one test of the plan, and one walk of its tree.
+pub fn parts_rows<'a>(outline: Outline, gates: &'a [u64], nodes: &'a Nodes) -> GateRows
+    ensures { λ r. ⌜ r ≡ gateRowsAnswer (planIn outline (now (gates .entry)) (now (nodes .entry))) ⌝ }
+{
+    if parts_fault(outline, gates, nodes) != 0 {
+        return no_gate_rows();
+    }
+    let mut bits = [0; MOST_GATES];
+    let mut steps = [0; MOST_GATES];
+    let count = outline.node_count as usize;
+    all_placements(nodes, count, 0, 0, 1, 0, MOST_LEVELS, &mut bits, &mut steps);
+    let mut selected = [0; MOST_GATES];
+    let mut own = [0; MOST_GATES];
+    let many = outline.gate_count;
+    let lookup = outline.lookup;
+    let extra = extra_of(lookup.mode());
+    list_gates(gates, many as usize, extra, &mut selected, &mut own);
+    GateRows {
+        number: 0,
+        many: many,
+        bits: bits,
+        steps: steps,
+        selected: selected,
+        own: own,
+    }
 }
 
 impl Plan {
@@ -127,34 +191,26 @@ impl Plan {
         }
     }
 
-    // The parameter words of a plan.
-    pub fn parameters(self) -> Parameters
-        ensures { λ r. ⌜ r ≡ parametersOf self ⌝ }
+    // The plan without its words of gates and nodes.
+    pub fn outline(self) -> Outline
+        ensures { λ r. ⌜ r ≡ outlineOf self ⌝ }
     {
+        let told = Told {
+            degree: self.degree,
+            constants: self.constants,
+            factor: self.factor,
+        };
         let lookup = self.lookup;
-        let mode = lookup.mode();
-        let width = lookup.lookup_width();
-        let share = flag_of(lookup.share_table_id());
-        Parameters {
+        Outline {
             trace: self.trace,
             copy: self.copy,
             allowed: self.allowed,
             specialised: self.specialised,
             variables: self.variables,
-            mode: mode,
-            width: width,
-            share: share,
-        }
-    }
-
-    // What the plan says of its tree.
-    pub fn told(self) -> Told
-        ensures { λ r. ⌜ r ≡ toldOf self ⌝ }
-    {
-        Told {
-            degree: self.degree,
-            constants: self.constants,
-            factor: self.factor,
+            lookup: lookup,
+            gate_count: self.gate_count,
+            node_count: self.node_count,
+            told: told,
         }
     }
 
@@ -162,17 +218,9 @@ impl Plan {
     pub fn fault(self) -> u64
         ensures { λ r. ⌜ r ≡ planFault self ⌝ }
     {
-        let parameters = self.parameters();
         let gates = self.gates;
         let nodes = self.nodes;
-        parts_fault(
-            parameters,
-            &gates,
-            self.gate_count,
-            &nodes,
-            self.node_count,
-            self.told(),
-        )
+        parts_fault(self.outline(), &gates, &nodes)
     }
 
     // The path of a gate: 19 first, then 12 for a gate that is not listed. A dropped gate's path is empty.
@@ -199,45 +247,6 @@ impl Plan {
             number: 0,
             bits: found.bits,
             length: found.length,
-        }
-    }
-
-    // What rows need of each gate: one test of the plan, and one walk of its tree.
-    pub fn gate_rows(self) -> GateRows
-        ensures { λ r. ⌜ r ≡ gateRowsAnswer self ⌝ }
-    {
-        if self.fault() != 0 {
-            return no_gate_rows();
-        }
-        let mut bits = [0; MOST_GATES];
-        let mut steps = [0; MOST_GATES];
-        let nodes = self.nodes;
-        let count = self.node_count as usize;
-        all_placements(
-            &nodes,
-            count,
-            0,
-            0,
-            1,
-            0,
-            MOST_LEVELS,
-            &mut bits,
-            &mut steps,
-        );
-        let mut selected = [0; MOST_GATES];
-        let mut own = [0; MOST_GATES];
-        let gates = self.gates;
-        let many = self.gate_count;
-        let lookup = self.lookup;
-        let extra = extra_of(lookup.mode());
-        list_gates(&gates, many as usize, extra, &mut selected, &mut own);
-        GateRows {
-            number: 0,
-            many: many,
-            bits: bits,
-            steps: steps,
-            selected: selected,
-            own: own,
         }
     }
 

@@ -1,4 +1,4 @@
--- `plan::Plan::gate_rows` meets its contract: a plan without a fault has a tree at node 0, of which the walk writes all paths over zeros, and its array holds the
+-- `plan::parts_rows` meets its contract: a plan without a fault has a tree at node 0, of which the walk writes all paths over zeros, and its array holds the
 -- words of its gates.
 -- Assumes nothing.
 use Prim.Native.Nat.{ℕ}
@@ -12,30 +12,35 @@ use Rattle.selector.specs.Refusals.{extraOf}
 use Rattle.parameters.specs.Lookup.{flagOf}
 use Rattle.tree.proofs.PlanCodeLaws.{listed-filled, own-given, paths-placed, placed-given}
 use Rattle.tree.specs.Placements.{pathWords}
-use Rattle.tree.specs.Plan.{gateRowsAnswer, planExtra, planFault, planOwn, planPlaced}
+use Rattle.tree.specs.Plan.{gateRowsAnswer, planExtra, planFault, planIn, planOwn, planPlaced}
 use Rattle.tree.specs.PlanLaws.{fault-none}
-use Rattle.tree.proofs.plan.Plan.gate_rows.Statement.{statement}
-use Rattle.tree.proofs.plan.Plan.gate_rows.Tie as tie
+use Rattle.tree.specs.declared.plan.Plan.{Plan}
+use Rattle.tree.proofs.plan.parts_rows.Statement.{statement}
+use Rattle.tree.proofs.plan.parts_rows.Tie as tie
 
-fault-requires : tie.Need-fault-requires
-fault-requires c κs = search needs
+parts-fault-requires : tie.Need-parts-fault-requires
+parts-fault-requires c κs = search needs
 
 no-gate-rows-requires : tie.Need-no-gate-rows-requires
 no-gate-rows-requires c κs = search needs
 
+-- the plan that the parts are
+abbrev plan : tie.Start → Plan
+plan c = planIn (c .args .outline) (c .args .gates .now) (c .args .nodes .now)
+
 returns : tie.Need-returns
 unfolding gateRowsAnswer
 returns c =
-    let s = c .before .before .before .args .self in
-    rw (ne-eqb (planFault s) 0 (λ z. c .before .if1 .taken (c .before .before .fault .ensures ∙ z))) (c .no-gate-rows .ensures)
+    let s = plan (c .before .before .before .before) in
+    rw (ne-eqb (planFault s) 0 (λ z. c .before .if1 .taken (c .before .before .parts-fault .ensures ∙ z))) (c .no-gate-rows .ensures)
 
 -- the plan has no fault
-fine : (c : tie.Else1) → planFault (c .before .before .args .self) ≡ 0
-fine c = sym (c .before .fault .ensures) ∙ c .if1 .left
+fine : (c : tie.Else1) → planFault (plan (c .before .before .before)) ≡ 0
+fine c = sym (c .before .parts-fault .ensures) ∙ c .if1 .left
 
 all-placements-requires : tie.Need-all-placements-requires
 all-placements-requires c κs =
-    let w = fault-none (c .before .before .before .before .before .before .args .self) (fine (c .before .before .before .before)) .nodes in
+    let w = fault-none (plan (c .before .before .before .before .before)) (fine (c .before .before)) .nodes in
     (w .linked, (w .some-nodes, w .few, omega arith, omega arith, omega arith))
 
 mode-requires : tie.Need-mode-requires
@@ -44,38 +49,34 @@ mode-requires c κs = search needs
 extra-of-requires : tie.Need-extra-of-requires
 extra-of-requires c κs = search needs
 
-slice-aggregate-list-gates : tie.Need-slice-aggregate-list-gates
-slice-aggregate-list-gates c = search needs
-
 list-gates-requires : tie.Need-list-gates-requires
 list-gates-requires c κs =
-    let w = fault-none (c .before .before .before .before .before .before .before .before .before .before .before .before .before .args .self) (fine (c .before .before .before .before .before .before .before .before .before .before .before)) in
+    let w = fault-none (plan (c .before .before .before .before .before .before .before .before .before .before)) (fine (c .before .before .before .before .before .before .before)) in
     (w .words, w .few-gates, refl, refl)
 
 returns-2 : tie.Need-returns-2
 unfolding gateRowsAnswer
 returns-2 c =
-    let s = c .before .before .before .before .before .before .before .before .before .before .before .before .before .before .args .self in
+    let s = plan (c .before .before .before .before .before .before .before .before .before .before .before) in
     let n = s .«gate_count» in
-    let f = fine (c .before .before .before .before .before .before .before .before .before .before .before .before) in
-    let v = c .before .before .before .before .before .before .before .all-placements in
+    let f = fine (c .before .before .before .before .before .before .before .before) in
+    let v = c .before .before .before .before .before .all-placements in
     let p = paths-placed s (pathWords (v .last .1 .1 .1 .1 .1 .1 .1 .0) (v .last .1 .1 .1 .1 .1 .1 .1 .1 .0)) f (v .ensures) in
     let l = c .list-gates in
-    let x = c .before .before .before .before .extra-of .ensures ∙ ap extraOf (c .before .before .before .before .before .mode .ensures) in
+    let x = c .before .before .before .extra-of .ensures ∙ ap extraOf (c .before .before .before .before .mode .ensures) in
     let placed = listed-filled s (λ (g : ℕ). flagOf (planPlaced s g)) (wanted (s .gates) n) (l .last .1 .1 .1 .0) (placed-given s) (l .ensures .0) in
     let own = listed-filled s (planOwn s) _ (l .last .1 .1 .1 .1 .0) (λ g h. ap (λ (k : ℕ). constantsOf k (s .gates) g) x ∙ own-given s (planExtra s) g h) (l .ensures .1) in
     rw (eq-eqb (planFault s) 0 f, p .0, p .1, placed, own) refl
 
-pub gate-rows-spec : {M : Type 1} → statement M
-gate-rows-spec =
+pub parts-rows-spec : {M : Type 1} → statement M
+parts-rows-spec =
     tie.close
     (tie.spec
-    fault-requires
+    parts-fault-requires
     no-gate-rows-requires
     returns
     all-placements-requires
     mode-requires
     extra-of-requires
-    slice-aggregate-list-gates
     list-gates-requires
     returns-2)

@@ -1,17 +1,17 @@
--- `plan::Plan::parameters` meets its contract: the lookup mode answers for its words.
+-- `plan::Outline::parameters` meets its contract: the lookup mode answers for its words.
 -- Assumes nothing.
 use Prim.Native.Nat.{ℕ}
 use borrow.Author.Needs.{needs}
 use mathlib.Core.Path.{_∙_, _≡_, ap, refl}
 use Rattle.parameters.specs.Lookup.{flagOf, modeOf, shareOf, widthOf}
-use Rattle.tree.specs.Plan.{parametersOf}
-use Rattle.tree.specs.declared.plan.Plan.{Plan}
-use Rattle.tree.proofs.plan.Plan.parameters.Statement.{statement}
-use Rattle.tree.proofs.plan.Plan.parameters.Tie as tie
+use Rattle.tree.specs.Plan.{parametersIn}
+use Rattle.tree.specs.declared.plan.Outline.{Outline}
+use Rattle.tree.proofs.plan.Outline.parameters.Statement.{statement}
+use Rattle.tree.proofs.plan.Outline.parameters.Tie as tie
 
 -- the parameter words of a plan, three of them under other names
-words : (p : Plan) (m w f : ℕ) → m ≡ modeOf (p .lookup) → w ≡ widthOf (p .lookup) → f ≡ flagOf (shareOf (p .lookup))
-    → record { trace = p .trace; copy = p .copy; allowed = p .allowed; specialised = p .specialised; variables = p .variables; mode = m; width = w; share = f } ≡ parametersOf p
+words : (p : Outline) (m w f : ℕ) → m ≡ modeOf (p .lookup) → w ≡ widthOf (p .lookup) → f ≡ flagOf (shareOf (p .lookup))
+    → record { trace = p .trace; copy = p .copy; allowed = p .allowed; specialised = p .specialised; variables = p .variables; mode = m; width = w; share = f } ≡ parametersIn p
 words p m w f is-mode is-width is-flag = rw (is-mode, is-width, is-flag) refl
 
 mode-requires : tie.Need-mode-requires
