@@ -5,7 +5,9 @@ pub mod Placed
 pub mod Stacked
 pub mod Quick
 pub mod Intake
+pub mod Given
 pub mod Rooms
 pub mod IntakeLaws
+pub mod GivenLaws
 pub mod Sections
 pub mod SectionsLaws

@@ -1,37 +1,25 @@
-// The intake: 01's state between calls, and the calls. Each call is lent just the buffers that it
+// The intake: 01's state between calls, and the calls, by value. Each call is lent just the buffers that it
 // may write. A refusal hands the state back as it was and writes nothing.
 ghost use mathlib.Core.Path.{_≡_};
-ghost use Rattle.tree.specs.Plan.{planFault};
-ghost use Rattle.pieces.specs.Setting.{cols, countsFit, stands};
+ghost use Rattle.pieces.specs.Setting.{cols};
 ghost use Rattle.pieces.specs.Opening.{startState};
-ghost use Rattle.pieces.specs.Finishing.{complete};
-ghost use Rattle.columns.specs.Intake.{settingOf, stateOf, withState, storeOf, refusedWith, openAnswer, openLeft, rowsAnswer, rowsLeft, sWordsAnswer, sWordsLeft, cellsAnswer, cellsLeft, tablesAnswer, tablesLeft, finishAnswer, finishLeft};
-use crate::cells::cells_fault;
-use crate::cells::place_cells;
-use crate::finishing::all_used;
-use crate::finishing::scratch_fine;
-use crate::finishing::write_firsts;
+ghost use Rattle.columns.specs.Intake.{withState, storeOf, refusedWith, openAnswer, openLeft, rowsAnswer, rowsLeft, sWordsAnswer, sWordsLeft, cellsAnswer, cellsLeft, tablesAnswer, tablesLeft, finishAnswer, finishLeft};
+ghost use Rattle.columns.specs.Given.{countsOf, counted};
 use crate::opening::clear;
-use crate::records::write_words;
 use crate::rooms::room_number;
 use crate::rooms::rooms_of;
-use crate::row_tests::test_rows;
-use crate::rows::write_rows;
-use crate::s_words::s_words_fault;
-use crate::tables::MOST_TABLES;
-use crate::tables::tables_fault;
-use crate::tables::write_tables;
+use crate::take::Counts;
+use crate::take::Given;
+use crate::take::NEVER;
+use crate::take::OPEN;
+use crate::take::take_cells;
+use crate::take::take_finish;
+use crate::take::take_rows;
+use crate::take::take_s_words;
+use crate::take::take_tables;
 use selector::MOST_GATES;
 use selector::Marks;
 use tree::plan::Plan;
-use tree::plan::parts_fault;
-
-// The phases of a state. Any other word is no open state either.
-pub const NEVER: u64 = 0;
-
-pub const OPEN: u64 = 1;
-
-pub const FINISHED: u64 = 2;
 
 // A plan, how much of each section came in so far, a mark for each gate that is in a row, and
 // the phase.
@@ -85,56 +73,41 @@ impl Intake {
         self.plan
     }
 
-    // Whether no count is past its section.
-    fn counts_fit(self) -> bool
-        requires { ⌜ planFault (self .plan) ≡ 0 ⌝ }
-        ensures { λ r. ⌜ r ≡ countsFit (settingOf (self .plan)) (stateOf self) ⌝ }
+    // How much came in so far, and the phase.
+    fn counts(self) -> Counts
+        ensures { λ r. ⌜ r ≡ countsOf self ⌝ }
     {
-        let plan = self.plan;
-        if plan.trace < self.rows {
-            return false;
+        Counts {
+            rows: self.rows,
+            s_words: self.s_words,
+            cells: self.cells,
+            tables: self.tables,
+            table_rows: self.table_rows,
+            phase: self.phase,
         }
-        if plan.specialised * plan.trace < self.s_words {
-            return false;
-        }
-        if plan.copy * plan.trace < self.cells {
-            return false;
-        }
-        let lookup = plan.lookup;
-        if 0 < lookup.mode() {
-            if MOST_TABLES < self.tables {
-                return false;
-            }
-            return self.table_rows <= plan.trace;
-        }
-        if 0 < self.tables {
-            return false;
-        }
-        self.table_rows <= 0
     }
 
-    // Whether this is no made-up state: a sound plan, open, and no count past its section.
-    fn stands(self) -> bool
-        ensures { λ r. ⌜ r ≡ stands (settingOf (self .plan)) (stateOf self) ⌝ }
+    // What a call answered, with the plan and the marks of the state that it got.
+    fn after(self, given: Given) -> Taken
+        ensures { λ r. ⌜ r ≡ counted self given ⌝ }
     {
         let plan = self.plan;
-        // not `plan.fault()`: each call on a state asks this, and the plan would be handed over by value
-        let told = plan.told();
-        let number = parts_fault(
-            plan.parameters(),
-            &plan.gates,
-            plan.gate_count,
-            &plan.nodes,
-            plan.node_count,
-            told,
-        );
-        if number != 0 {
-            return false;
+        let used = self.used;
+        let counts = given.counts;
+        let state = Intake {
+            plan: plan,
+            rows: counts.rows,
+            s_words: counts.s_words,
+            cells: counts.cells,
+            tables: counts.tables,
+            table_rows: counts.table_rows,
+            used: used,
+            phase: counts.phase,
+        };
+        Taken {
+            number: given.number,
+            state: state,
         }
-        if self.phase != OPEN {
-            return false;
-        }
-        self.counts_fit()
     }
 
     // Opens the columns of a plan: named words zeroed, labels written, words beyond kept. A refusal
@@ -153,7 +126,8 @@ impl Intake {
         if plan.fault() != 0 {
             return refused(19, zero);
         }
-        let short = room_number(plan, constants, copies, scratch, tables);
+        let outline = plan.outline();
+        let short = room_number(outline, constants, copies, scratch, tables);
         if short != 0 {
             return refused(short, zero);
         }
@@ -161,7 +135,7 @@ impl Intake {
         if number != 0 {
             return refused(number, zero);
         }
-        let rooms = rooms_of(plan);
+        let rooms = rooms_of(outline);
         clear(rooms.tables, tables);
         clear(rooms.scratch, scratch);
         // last, since rows are what mostly comes next: they find these words in the cache
@@ -178,197 +152,107 @@ impl Intake {
         ensures { λ _. ⌜ now (constants .exit) ≡ rowsLeft self (now (piece .entry)) (now (constants .entry)) ⌝ }
     {
         let plan = self.plan;
-        // its number is the plan's test, which is not made a second time
-        let gates = plan.gate_rows();
-        if gates.number != 0 {
-            return refused(19, self);
+        let outline = plan.outline();
+        let used = self.used;
+        let told = take_rows(
+            outline,
+            &plan.gates,
+            &plan.nodes,
+            self.counts(),
+            used,
+            piece,
+            constants,
+        );
+        let marks = told.used;
+        let counts = told.counts;
+        let state = Intake {
+            plan: plan,
+            rows: counts.rows,
+            s_words: counts.s_words,
+            cells: counts.cells,
+            tables: counts.tables,
+            table_rows: counts.table_rows,
+            used: marks,
+            phase: counts.phase,
+        };
+        Taken {
+            number: told.number,
+            state: state,
         }
-        if self.phase != OPEN {
-            return refused(19, self);
-        }
-        if self.counts_fit() {
-            if constants.len() < rooms_of(plan).constants {
-                return refused(10, self);
-            }
-            let own = gates.own;
-            let mut used = self.used;
-            let tested = test_rows(gates.many, &own, plan.trace, self.rows, piece, &mut used);
-            if tested.number != 0 {
-                return refused(tested.number, self);
-            }
-            write_rows(
-                plan.constants,
-                plan.trace,
-                self.rows,
-                gates,
-                piece,
-                constants,
-            );
-            let state = Intake {
-                plan: plan,
-                rows: tested.rows,
-                s_words: self.s_words,
-                cells: self.cells,
-                tables: self.tables,
-                table_rows: self.table_rows,
-                used: used,
-                phase: self.phase,
-            };
-            return Taken {
-                number: 0,
-                state: state,
-            };
-        }
-        refused(19, self)
     }
 
     // Words of the specialised constant columns, column by column.
-    pub fn s_words(mut self, piece: &[u64], constants: &mut [u64]) -> Taken
+    pub fn s_words(self, piece: &[u64], constants: &mut [u64]) -> Taken
         ensures { λ r. ⌜ r ≡ sWordsAnswer self (now (piece .entry)) (now (constants .entry)) ⌝ }
         ensures { λ _. ⌜ now (constants .exit) ≡ sWordsLeft self (now (piece .entry)) (now (constants .entry)) ⌝ }
     {
-        if self.stands() {
-            let plan = self.plan;
-            if constants.len() < rooms_of(plan).constants {
-                return refused(10, self);
-            }
-            let total = plan.specialised * plan.trace;
-            let fault = s_words_fault(total, self.s_words, piece);
-            if fault != 0 {
-                return refused(fault, self);
-            }
-            let at = (plan.constants * plan.trace + self.s_words) as usize;
-            write_words(at, piece, constants);
-            self.s_words = self.s_words + piece.len() as u64;
-            return Taken {
-                number: 0,
-                state: self,
-            };
-        }
-        refused(19, self)
+        let plan = self.plan;
+        let outline = plan.outline();
+        let given = take_s_words(
+            outline,
+            &plan.gates,
+            &plan.nodes,
+            self.counts(),
+            piece,
+            constants,
+        );
+        self.after(given)
     }
 
     // Cell words of the copy columns, column by column.
-    pub fn cells(mut self, piece: &[u64], copies: &mut [u64], scratch: &mut [u64]) -> Taken
+    pub fn cells(self, piece: &[u64], copies: &mut [u64], scratch: &mut [u64]) -> Taken
         ensures { λ r. ⌜ r ≡ cellsAnswer self (now (piece .entry)) (cols (now (copies .entry)) (now (scratch .entry))) ⌝ }
         ensures { λ _. ⌜ cols (now (copies .exit)) (now (scratch .exit)) ≡ cellsLeft self (now (piece .entry)) (cols (now (copies .entry)) (now (scratch .entry))) ⌝ }
     {
-        if self.stands() {
-            let plan = self.plan;
-            let rooms = rooms_of(plan);
-            if copies.len() < rooms.copies {
-                return refused(10, self);
-            }
-            if scratch.len() < rooms.scratch {
-                return refused(10, self);
-            }
-            let total = plan.copy * plan.trace;
-            let fault = cells_fault(total, plan.variables, self.cells, piece);
-            if fault != 0 {
-                return refused(fault, self);
-            }
-            place_cells(self.cells, piece, copies, scratch);
-            self.cells = self.cells + piece.len() as u64;
-            return Taken {
-                number: 0,
-                state: self,
-            };
-        }
-        refused(19, self)
+        let plan = self.plan;
+        let outline = plan.outline();
+        let given = take_cells(
+            outline,
+            &plan.gates,
+            &plan.nodes,
+            self.counts(),
+            piece,
+            copies,
+            scratch,
+        );
+        self.after(given)
     }
 
     // Table records: width, rows, contents row by row.
-    pub fn tables(mut self, piece: &[u64], tables: &mut [u64]) -> Taken
+    pub fn tables(self, piece: &[u64], tables: &mut [u64]) -> Taken
         ensures { λ r. ⌜ r ≡ tablesAnswer self (now (piece .entry)) (now (tables .entry)) ⌝ }
         ensures { λ _. ⌜ now (tables .exit) ≡ tablesLeft self (now (piece .entry)) (now (tables .entry)) ⌝ }
     {
-        if self.stands() {
-            let plan = self.plan;
-            if tables.len() < rooms_of(plan).tables {
-                return refused(10, self);
-            }
-            let lookup = plan.lookup;
-            let width = lookup.lookup_width();
-            let looked = 0 < lookup.mode();
-            let fault = tables_fault(
-                looked,
-                width,
-                plan.trace,
-                self.tables,
-                self.table_rows,
-                piece,
-            );
-            if fault != 0 {
-                return refused(fault, self);
-            }
-            if looked {
-                let stack = write_tables(
-                    width,
-                    plan.trace,
-                    self.tables,
-                    self.table_rows,
-                    piece,
-                    tables,
-                );
-                self.tables = stack.count;
-                self.table_rows = stack.high;
-            }
-            return Taken {
-                number: 0,
-                state: self,
-            };
-        }
-        refused(19, self)
-    }
-
-    // Whether rows, S words and cells are all there.
-    pub(crate) fn complete(self) -> bool
-        requires { ⌜ planFault (self .plan) ≡ 0 ⌝ }
-        ensures { λ r. ⌜ r ≡ complete (settingOf (self .plan)) (stateOf self) ⌝ }
-    {
         let plan = self.plan;
-        if self.rows != plan.trace {
-            return false;
-        }
-        if self.s_words != plan.specialised * plan.trace {
-            return false;
-        }
-        self.cells == plan.copy * plan.trace
+        let outline = plan.outline();
+        let given = take_tables(
+            outline,
+            &plan.gates,
+            &plan.nodes,
+            self.counts(),
+            piece,
+            tables,
+        );
+        self.after(given)
     }
 
-    // Finishing: each seen variable's value goes to its first cell, by rising index. Nothing is
-    // written unless everything is complete, every gate is in a row and all of scratch is fine.
-    pub fn finish(mut self, copies: &mut [u64], scratch: &[u64]) -> Taken
+    // Finishing: each seen variable's value goes to its first cell.
+    pub fn finish(self, copies: &mut [u64], scratch: &[u64]) -> Taken
         ensures { λ r. ⌜ r ≡ finishAnswer self (cols (now (copies .entry)) (now (scratch .entry))) ⌝ }
         ensures { λ _. ⌜ now (copies .exit) ≡ finishLeft self (cols (now (copies .entry)) (now (scratch .entry))) ⌝ }
     {
-        if self.stands() {
-            let plan = self.plan;
-            let rooms = rooms_of(plan);
-            if copies.len() < rooms.copies {
-                return refused(10, self);
-            }
-            if scratch.len() < rooms.scratch {
-                return refused(10, self);
-            }
-            if self.complete() {
-                let used = self.used;
-                if all_used(plan.gate_count, &used) {
-                    let cells = plan.copy * plan.trace;
-                    if scratch_fine(plan.variables, cells, scratch) {
-                        write_firsts(plan.variables, cells, scratch, copies);
-                        self.phase = FINISHED;
-                        return Taken {
-                            number: 0,
-                            state: self,
-                        };
-                    }
-                    return refused(18, self);
-                }
-                return refused(17, self);
-            }
-            return refused(16, self);
-        }
-        refused(19, self)
+        let plan = self.plan;
+        let outline = plan.outline();
+        let used = self.used;
+        let given = take_finish(
+            outline,
+            &plan.gates,
+            &plan.nodes,
+            self.counts(),
+            used,
+            copies,
+            scratch,
+        );
+        self.after(given)
     }
 }

@@ -10,3 +10,4 @@ mod rows;
 mod s_words;
 pub mod sections;
 mod tables;
+pub mod take;

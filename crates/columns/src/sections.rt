@@ -2,20 +2,29 @@
 // faulty section's, then finishing's. No word is written, so that a refusal of any of them leaves
 // the buffers as they were.
 ghost use mathlib.Core.Path.{_≡_};
-ghost use Rattle.tree.specs.Plan.{planFault};
+ghost use mathlib.Core.List.{List};
+ghost use Prim.Native.Nat.{ℕ, _≤_};
+ghost use Rattle.base.specs.Limits.{mostGates};
+ghost use Rattle.tree.specs.Plan.{planFault, planIn};
 ghost use Rattle.pieces.specs.Opening.{openNumber};
-ghost use Rattle.columns.specs.Intake.{settingOf, stateOf, storeOf};
+ghost use Rattle.columns.specs.Intake.{settingOf, storeOf};
+ghost use Rattle.columns.specs.Given.{stateIn};
+ghost use Rattle.columns.specs.Rooms.{Small};
 ghost use Rattle.columns.specs.Sections.{sectionsNumber, laterFault, lastTests};
 use crate::cells::cells_fault;
 use crate::finishing::all_used;
-use crate::intake::Intake;
-use crate::intake::OPEN;
 use crate::rooms::room_number;
 use crate::row_tests::test_rows;
 use crate::s_words::s_words_fault;
 use crate::tables::tables_fault;
+use crate::take::Counts;
+use crate::take::OPEN;
+use crate::take::complete;
 use selector::MOST_GATES;
+use selector::Marks;
+use tree::plan::Outline;
 use tree::plan::Plan;
+use tree::plan::parts_rows;
 
 // Opening's number for a sound plan: 10 or 9.
 fn open_number(
@@ -28,7 +37,7 @@ fn open_number(
     requires { ⌜ planFault plan ≡ 0 ⌝ }
     ensures { λ r. ⌜ r ≡ openNumber (settingOf plan) (storeOf (now (constants .entry)) (now (copies .entry)) (now (scratch .entry)) (now (tables .entry))) ⌝ }
 {
-    let short = room_number(plan, constants, copies, scratch, tables);
+    let short = room_number(plan.outline(), constants, copies, scratch, tables);
     if short != 0 {
         return short;
     }
@@ -54,14 +63,12 @@ fn later_fault(plan: Plan, s_words: &[u64], cells: &[u64], tables: &[u64]) -> u6
 }
 
 // 16 and 17, of what came in without a fault.
-fn last_tests(state: Intake) -> u64
-    requires { ⌜ planFault (state .plan) ≡ 0 ⌝ }
-    ensures { λ r. ⌜ r ≡ lastTests (settingOf (state .plan)) (stateOf state) ⌝ }
+fn last_tests(outline: Outline, counts: Counts, used: Marks) -> u64
+    requires { ⌜ Small outline × (outline .«gate_count» ≤ mostGates) ⌝ }
+    ensures { λ r. ⌜ ((gs ns : List ℕ) → r ≡ lastTests (settingOf (planIn outline gs ns)) (stateIn counts used)) ⌝ }
 {
-    if state.complete() {
-        let many = state.plan.gate_count;
-        let used = state.used;
-        if all_used(many, &used) {
+    if complete(outline, counts) {
+        if all_used(outline.gate_count, &used) {
             return 0;
         }
         return 17;
@@ -85,7 +92,8 @@ pub fn sections_number(
     ensures { λ r. ⌜ r ≡ sectionsNumber (settingOf plan) (storeOf (now (constants .entry)) (now (copies .entry)) (now (scratch .entry)) (now (tables .entry))) (now (rows .entry)) (now («s_words» .entry)) (now (cells .entry)) (now («table_words» .entry)) ⌝ }
 {
     // its number is the plan's test, which is not made a second time
-    let gates = plan.gate_rows();
+    let outline = plan.outline();
+    let gates = parts_rows(outline, &plan.gates, &plan.nodes);
     if gates.number != 0 {
         return 19;
     }
@@ -103,15 +111,13 @@ pub fn sections_number(
     if fault != 0 {
         return fault;
     }
-    let state = Intake {
-        plan: plan,
+    let counts = Counts {
         rows: tested.rows,
         s_words: s_words.len() as u64,
         cells: cells.len() as u64,
         tables: 0,
         table_rows: 0,
-        used: used,
         phase: OPEN,
     };
-    last_tests(state)
+    last_tests(outline, counts, used)
 }

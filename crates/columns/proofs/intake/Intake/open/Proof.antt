@@ -11,7 +11,10 @@ use borrow.Author.Tests.{le-leb}
 use Rattle.labels.specs.Ranges.{rangesFit}
 use Rattle.labels.specs.Labels.{searchNumber, fillNumber}
 use Rattle.labels.specs.LabelLaws.{written-refused, written-is}
-use Rattle.tree.specs.Plan.{planFault, zeroPlan}
+use Rattle.base.specs.Pick.{pick}
+use Rattle.tree.specs.Plan.{outlineOf, planFault, zeroPlan}
+use Rattle.columns.specs.Rooms.{RoomsOf}
+use Rattle.columns.specs.GivenLaws.{small}
 use Rattle.tree.specs.declared.plan.Plan.{Plan}
 use Rattle.pieces.specs.Opening.{roomToOpen, openNumber, zeroState}
 use Rattle.pieces.specs.Writing.{cleared}
@@ -50,8 +53,15 @@ returns c =
     let k = open-refused q b 19 (open-19 q b (λ z. c .before .if1 .taken (c .before .before .fault .ensures ∙ z))) (λ z. omega arith) in
     (c .refused .ensures ∙ ap (refusedWith 19) (zeros (c .before .before .before)) ∙ k .0, k .1)
 
+outline-requires : tie.Need-outline-requires
+outline-requires c κs = search needs
+
 room-number-requires : tie.Need-room-number-requires
-room-number-requires c κs = search needs
+room-number-requires c κs = let q = c .before .before .before .before .before .before .before .before .before .before .before .before .before .args .plan in rw (c .before .before .before .before .outline .ensures) (small (outlineOf q) (q .gates) (q .nodes) (fine (c .before .before .before .before .before)))
+
+-- the outline is the plan's
+short-is : (c : tie.After-room-number) → let a = c .before .before .before .before .before .before .before .before .before .before .before .before .before .before .args in c .room-number .result ≡ pick (roomToOpen (settingOf (a .plan)) (storeOf (a .constants .now) (a .copies .now) (a .scratch .now) (a .tables .now))) 0 10
+short-is c = let q = c .before .before .before .before .before .before .before .before .before .before .before .before .before .before .args .plan in c .room-number .ensures (q .gates) (q .nodes) ∙ rw (c .before .before .before .before .before .outline .ensures)
 
 refused-requires-2 : tie.Need-refused-requires-2
 refused-requires-2 c κs = search needs
@@ -70,21 +80,21 @@ same-length-4 c = search needs
 
 returns-2 : tie.Need-returns-2
 returns-2 c =
-    let a = c .before .before .before .before .before .before .before .before .before .before .before .before .before .before .before .args in
+    let a = c .before .before .before .before .before .before .before .before .before .before .before .before .before .before .before .before .args in
     let q = a .plan in
     let b = storeOf (a .constants .now) (a .copies .now) (a .scratch .now) (a .tables .now) in
     let r = c .before .before .room-number in
-    let h = short-room (roomToOpen (settingOf q) b) (r .result) (r .ensures) (c .before .if2 .taken) in
-    let k = open-refused q b (r .result) (open-10 q b (fine (c .before .before .before .before .before .before .before)) (h .0) ∙ sym (h .1)) (c .before .if2 .taken) in
-    (c .refused2 .ensures ∙ ap (refusedWith (r .result)) (zeros (c .before .before .before .before .before .before .before .before .before)) ∙ k .0, k .1)
+    let h = short-room (roomToOpen (settingOf q) b) (r .result) (short-is (c .before .before)) (c .before .if2 .taken) in
+    let k = open-refused q b (r .result) (open-10 q b (fine (c .before .before .before .before .before .before .before .before)) (h .0) ∙ sym (h .1)) (c .before .if2 .taken) in
+    (c .refused2 .ensures ∙ ap (refusedWith (r .result)) (zeros (c .before .before .before .before .before .before .before .before .before .before)) ∙ k .0, k .1)
 
 -- every buffer has its named words
-room : (c : tie.Else2) → let a = c .before .before .before .before .before .before .before .before .before .before .before .before .before .before .args in roomToOpen (settingOf (a .plan)) (storeOf (a .constants .now) (a .copies .now) (a .scratch .now) (a .tables .now)) ≡ true
+room : (c : tie.Else2) → let a = c .before .before .before .before .before .before .before .before .before .before .before .before .before .before .before .args in roomToOpen (settingOf (a .plan)) (storeOf (a .constants .now) (a .copies .now) (a .scratch .now) (a .tables .now)) ≡ true
 room c =
-    let a = c .before .before .before .before .before .before .before .before .before .before .before .before .before .before .args in
+    let a = c .before .before .before .before .before .before .before .before .before .before .before .before .before .before .before .args in
     let q = a .plan in
     let b = storeOf (a .constants .now) (a .copies .now) (a .scratch .now) (a .tables .now) in
-    long-room (roomToOpen (settingOf q) b) (c .before .room-number .result) (c .before .room-number .ensures) (c .if2 .left)
+    long-room (roomToOpen (settingOf q) b) (c .before .room-number .result) (short-is (c .before)) (c .if2 .left)
 
 fill-labels-requires : tie.Need-fill-labels-requires
 fill-labels-requires c κs = search needs
@@ -95,13 +105,13 @@ unfolding fillNumber
 fill-is n k copies r h = rw (r, le-leb (k * n) (length copies) h)
 
 -- opening's number is the labels'
-number-is : (c : tie.After-fill-labels) → let a = c .before .before .before .before .before .before .before .before .before .before .before .before .before .before .before .before .args in openNumber (settingOf (a .plan)) (storeOf (a .constants .now) (a .copies .now) (a .scratch .now) (a .tables .now)) ≡ c .fill-labels .result
+number-is : (c : tie.After-fill-labels) → let a = c .before .before .before .before .before .before .before .before .before .before .before .before .before .before .before .before .before .args in openNumber (settingOf (a .plan)) (storeOf (a .constants .now) (a .copies .now) (a .scratch .now) (a .tables .now)) ≡ c .fill-labels .result
 number-is c =
-    let a = c .before .before .before .before .before .before .before .before .before .before .before .before .before .before .before .before .args in
+    let a = c .before .before .before .before .before .before .before .before .before .before .before .before .before .before .before .before .before .args in
     let q = a .plan in
     let b = storeOf (a .constants .now) (a .copies .now) (a .scratch .now) (a .tables .now) in
-    let w = sound q (fine (c .before .before .before .before .before .before .before .before)) in
-    open-own q b (fine (c .before .before .before .before .before .before .before .before)) (room (c .before .before)) ∙ sym (c .fill-labels .ensures .0 ∙ fill-is (q .trace) (q .copy) (a .copies .now) (w .ranges-fit-too) (opened-long q b (room (c .before .before)) .1))
+    let w = sound q (fine (c .before .before .before .before .before .before .before .before .before)) in
+    open-own q b (fine (c .before .before .before .before .before .before .before .before .before)) (room (c .before .before)) ∙ sym (c .fill-labels .ensures .0 ∙ fill-is (q .trace) (q .copy) (a .copies .now) (w .ranges-fit-too) (opened-long q b (room (c .before .before)) .1))
 
 refused-requires-3 : tie.Need-refused-requires-3
 refused-requires-3 c κs = search needs
@@ -120,37 +130,40 @@ same-length-8 c = search needs
 
 returns-3 : tie.Need-returns-3
 returns-3 c =
-    let a = c .before .before .before .before .before .before .before .before .before .before .before .before .before .before .before .before .before .before .before .before .args in
+    let a = c .before .before .before .before .before .before .before .before .before .before .before .before .before .before .before .before .before .before .before .before .before .args in
     let q = a .plan in
     let b = storeOf (a .constants .now) (a .copies .now) (a .scratch .now) (a .tables .now) in
     let f = c .before .before .before .before .fill-labels in
     let k = open-refused q b (f .result) (number-is (c .before .before .before .before)) (c .before .if3 .taken) in
     let kept = f .ensures .1 ∙ written-refused (q .trace) (q .copy) (a .copies .now) (λ z. c .before .if3 .taken (f .ensures .0 ∙ z)) in
-    (c .refused3 .ensures ∙ ap (refusedWith (f .result)) (zeros (c .before .before .before .before .before .before .before .before .before .before .before .before .before .before)) ∙ k .0, ap (λ (y : List ℕ). storeOf (a .constants .now) y (a .scratch .now) (a .tables .now)) kept ∙ k .1)
+    (c .refused3 .ensures ∙ ap (refusedWith (f .result)) (zeros (c .before .before .before .before .before .before .before .before .before .before .before .before .before .before .before)) ∙ k .0, ap (λ (y : List ℕ). storeOf (a .constants .now) y (a .scratch .now) (a .tables .now)) kept ∙ k .1)
 
 rooms-of-requires : tie.Need-rooms-of-requires
-rooms-of-requires c κs = fine (c .before .before .before .before .before .before .before .before .before .before .before)
+rooms-of-requires c κs = let q = c .before .before .before .before .before .before .before .before .before .before .before .before .before .before .before .before .before .before .before .before .args .plan in rw (c .before .before .before .before .before .before .before .before .before .before .before .outline .ensures) (small (outlineOf q) (q .gates) (q .nodes) (fine (c .before .before .before .before .before .before .before .before .before .before .before .before)))
+
+rooms-are : (c : tie.After-rooms-of) → RoomsOf (settingOf (c .before .before .before .before .before .before .before .before .before .before .before .before .before .before .before .before .before .before .before .before .before .args .plan)) (c .rooms-of .result)
+rooms-are c = let q = c .before .before .before .before .before .before .before .before .before .before .before .before .before .before .before .before .before .before .before .before .before .args .plan in rw (c .before .before .before .before .before .before .before .before .before .before .before .before .outline .ensures) at (c .rooms-of .ensures (q .gates) (q .nodes))
 
 clear-requires : tie.Need-clear-requires
 clear-requires c κs =
-    let a = c .before .before .before .before .before .before .before .before .before .before .before .before .before .before .before .before .before .before .before .before .before .args in
+    let a = c .before .before .before .before .before .before .before .before .before .before .before .before .before .before .before .before .before .before .before .before .before .before .args in
     let q = a .plan in
     let b = storeOf (a .constants .now) (a .copies .now) (a .scratch .now) (a .tables .now) in
-    omega (arith, opened-long q b (room (c .before .before .before .before .before .before .before)) .3, c .before .rooms-of .ensures .tables-are)
+    omega (arith, opened-long q b (room (c .before .before .before .before .before .before .before)) .3, rooms-are (c .before) .tables-are)
 
 clear-requires-2 : tie.Need-clear-requires-2
 clear-requires-2 c κs =
-    let a = c .before .before .before .before .before .before .before .before .before .before .before .before .before .before .before .before .before .before .before .before .before .before .before .before .before .args in
+    let a = c .before .before .before .before .before .before .before .before .before .before .before .before .before .before .before .before .before .before .before .before .before .before .before .before .before .before .args in
     let q = a .plan in
     let b = storeOf (a .constants .now) (a .copies .now) (a .scratch .now) (a .tables .now) in
-    omega (arith, opened-long q b (room (c .before .before .before .before .before .before .before .before .before .before .before)) .2, c .before .before .before .before .before .rooms-of .ensures .scratch-is)
+    omega (arith, opened-long q b (room (c .before .before .before .before .before .before .before .before .before .before .before)) .2, rooms-are (c .before .before .before .before .before) .scratch-is)
 
 clear-requires-3 : tie.Need-clear-requires-3
 clear-requires-3 c κs =
-    let a = c .before .before .before .before .before .before .before .before .before .before .before .before .before .before .before .before .before .before .before .before .before .before .before .before .before .before .before .before .before .args in
+    let a = c .before .before .before .before .before .before .before .before .before .before .before .before .before .before .before .before .before .before .before .before .before .before .before .before .before .before .before .before .before .before .args in
     let q = a .plan in
     let b = storeOf (a .constants .now) (a .copies .now) (a .scratch .now) (a .tables .now) in
-    omega (arith, opened-long q b (room (c .before .before .before .before .before .before .before .before .before .before .before .before .before .before .before)) .0, c .before .before .before .before .before .before .before .before .before .rooms-of .ensures .constants-are)
+    omega (arith, opened-long q b (room (c .before .before .before .before .before .before .before .before .before .before .before .before .before .before .before)) .0, rooms-are (c .before .before .before .before .before .before .before .before .before) .constants-are)
 
 start-requires-2 : tie.Need-start-requires-2
 start-requires-2 c κs = search needs
@@ -175,11 +188,11 @@ as-taken e = ap (refusedWith 0) e
 
 returns-4 : tie.Need-returns-4
 returns-4 c =
-    let a = c .before .before .before .before .before .before .before .before .before .before .before .before .before .before .before .before .before .before .before .before .before .before .before .before .before .before .before .before .before .before .before .before .before .args in
+    let a = c .before .before .before .before .before .before .before .before .before .before .before .before .before .before .before .before .before .before .before .before .before .before .before .before .before .before .before .before .before .before .before .before .before .before .args in
     let q = a .plan in
     let b = storeOf (a .constants .now) (a .copies .now) (a .scratch .now) (a .tables .now) in
     let f = c .before .before .before .before .before .before .before .before .before .before .before .before .before .before .before .before .before .fill-labels in
-    let r = c .before .before .before .before .before .before .before .before .before .before .before .before .before .rooms-of .ensures in
+    let r = rooms-are (c .before .before .before .before .before .before .before .before .before .before .before .before .before) in
     let k = open-taken q b (number-is (c .before .before .before .before .before .before .before .before .before .before .before .before .before .before .before .before .before) ∙ c .before .before .before .before .before .before .before .before .before .before .before .before .before .before .if3 .left) in
     let labelled = f .ensures .1 ∙ written-is (q .trace) (q .copy) (a .copies .now) (sym (f .ensures .0) ∙ c .before .before .before .before .before .before .before .before .before .before .before .before .before .before .if3 .left) in
     let constants = c .before .before .before .clear3 .ensures ∙ ap (λ (n : ℕ). cleared n (a .constants .now)) (r .constants-are) in
@@ -196,6 +209,7 @@ open-spec =
     fault-requires
     refused-requires
     returns
+    outline-requires
     room-number-requires
     refused-requires-2
     same-length
@@ -220,3 +234,4 @@ open-spec =
     same-length-11
     same-length-12
     returns-4)
+
