@@ -75,15 +75,8 @@ fn visit<'a>(
     }
     let left = nodes[at * NODE_WORDS] as usize;
     if left == 0 {
-        return meet(
-            gates,
-            marks,
-            most,
-            many,
-            nodes[at * NODE_WORDS + 2],
-            level,
-            extra,
-        );
+        let gate = nodes[at * NODE_WORDS + 2];
+        return meet(gates, marks, most, many, gate, level, extra);
     }
     let fine = visit(
         gates,

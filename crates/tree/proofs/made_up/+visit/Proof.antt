@@ -70,47 +70,47 @@ visit-shared-slice-read-left t c =
     let p = s .pre .1 in
     omega (arith, p .1 .1)
 
-visit-mul-meet : (t : ℕ) → visit-lts.Need-mul-meet (
+visit-mul-gate : (t : ℕ) → visit-lts.Need-mul-gate (
   meet-reads.Asked,
   meet-reads.Learnt,
   visit-below t,
   visit.Post,
 ) (visit-at t) visit.Post
-visit-mul-meet t c =
-    let s = c .before .before .before .before .before .before .before in
+visit-mul-gate t c =
+    let s = c .before .before .before .before .before in
     let p = s .pre .1 in
     omega (arith, p .1 .1)
 
-visit-add-meet : (t : ℕ) → visit-lts.Need-add-meet (
+visit-add-gate : (t : ℕ) → visit-lts.Need-add-gate (
   meet-reads.Asked,
   meet-reads.Learnt,
   visit-below t,
   visit.Post,
 ) (visit-at t) visit.Post
-visit-add-meet t c =
-    let s = c .before .before .before .before .before .before .before in
+visit-add-gate t c =
+    let s = c .before .before .before .before .before in
     let p = s .pre .1 in
     omega (arith, p .1 .1)
 
-visit-mul-meet-2 : (t : ℕ) → visit-lts.Need-mul-meet-2 (
+visit-mul-gate-2 : (t : ℕ) → visit-lts.Need-mul-gate-2 (
   meet-reads.Asked,
   meet-reads.Learnt,
   visit-below t,
   visit.Post,
 ) (visit-at t) visit.Post
-visit-mul-meet-2 t c =
-    let s = c .before .before .before .before .before .before .before in
+visit-mul-gate-2 t c =
+    let s = c .before .before .before .before .before in
     let p = s .pre .1 in
     omega (arith, p .1 .1)
 
-visit-shared-slice-read-meet : (t : ℕ) → visit-lts.Need-shared-slice-read-meet (
+visit-shared-slice-read-gate : (t : ℕ) → visit-lts.Need-shared-slice-read-gate (
   meet-reads.Asked,
   meet-reads.Learnt,
   visit-below t,
   visit.Post,
 ) (visit-at t) visit.Post
-visit-shared-slice-read-meet t c =
-    let s = c .before .before .before .before .before .before .before .before in
+visit-shared-slice-read-gate t c =
+    let s = c .before .before .before .before .before .before in
     let p = s .pre .1 in
     omega (arith, p .1 .1)
 
@@ -291,10 +291,10 @@ pub +visit-spec : {M : Type 1} → statement M
     (visit-mul-left t)
     (visit-mul-left-2 t)
     (visit-shared-slice-read-left t)
-    (visit-mul-meet t)
-    (visit-add-meet t)
-    (visit-mul-meet-2 t)
-    (visit-shared-slice-read-meet t)
+    (visit-mul-gate t)
+    (visit-add-gate t)
+    (visit-mul-gate-2 t)
+    (visit-shared-slice-read-gate t)
     (visit-meet-requires t)
     (visit-returns-2 t)
     (visit-add-visit t)
