@@ -156,17 +156,18 @@ abbrev pub planExtra : Plan → ℕ
 planExtra p = extraOf (modeOf (p .lookup))
 
 -- "19 is given for a made-up plan: parameters or gates that 1 to 7 turn down, a child not after its parent or past the nodes, a leaf below depth 31, leaves
--- other than each placed gate just once, or D, K or F not the tree's." Gate words that are not there are a fault too, which a plan's own array of `gateSlots`
--- never has.
+-- other than each placed gate just once, or D, K or F not the tree's." Gate or node words that are not there are a fault too, which a plan's own arrays, of
+-- `gateSlots` and `nodeSlots` words, never have.
 unfoldable pub planFault : Plan → ℕ
 planFault p =
     pick (eqb (parametersNumber (parametersOf p)) 0)
     (pick (leb 1 (p .«gate_count»))
     (pick (leb (p .«gate_count») mostGates)
     (pick (leb (p .«gate_count» * gateWords) (length (p .gates)))
+    (pick (leb nodeSlots (length (p .nodes)))
     (pick (eqb (gatesNumber (modeOf (p .lookup)) (p .allowed) (gatesGiven p) (p .«gate_count»)) 0)
     (pick (nodesFit (planExtra p) (gatesGiven p) (p .«gate_count») (p .nodes) (p .«node_count») (p .degree) (p .constants) (p .factor)) 0 19)
-    19) 19) 19) 19) 19
+    19) 19) 19) 19) 19) 19
 
 -- the path of a gate in a plan's tree; a gate at no leaf, a dropped one, has the empty path
 abbrev pub pathIn : Option Tree → ℕ → List ℕ

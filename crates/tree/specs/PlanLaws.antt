@@ -4,7 +4,7 @@
 use Prim.Native.Nat.{_*_, _+_, _<_, _≤_, ℕ}
 use borrow.Author.Tests.{eq-eqb, eqb-true, le-leb, leb-true, ne-eqb}
 use lib.Dec.{eqb, leb}
-use lib.ListN.{drop, length, length-append, replicate}
+use lib.ListN.{drop, length, length-append, length-replicate, replicate}
 use lib.Seq.{take-append-seam}
 use mathlib.Core.Bool.{Bool, false, true}
 use mathlib.Core.List.{List}
@@ -17,7 +17,8 @@ use Rattle.base.specs.Pick.{pick, pick-no, pick-zero}
 use Rattle.selector.specs.Gates.{gateSlots, gateWords, placedGates, topConstants}
 use Rattle.selector.specs.MadeUp.{nodesFit}
 use Rattle.selector.specs.MadeUpLaws.{Sturdy, own-passes, sturdy}
-use Rattle.selector.specs.NodeLaws.{size-some}
+use Rattle.selector.specs.NodeLaws.{laid-length, size-some}
+use Rattle.selector.specs.Nodes.{nodeSlots, nodeWords}
 use Rattle.selector.specs.RecordLaws.{gates-sound, words-fit}
 use Rattle.base.specs.Limits.{mostGates}
 use Rattle.selector.specs.Inner.{Sound}
@@ -42,6 +43,7 @@ pub record Faultless (p : Plan) : Type 0 where
   pub some-gates : 1 ≤ p .«gate_count»
   pub few-gates : p .«gate_count» ≤ mostGates
   pub words : p .«gate_count» * gateWords ≤ length (p .gates)
+  pub node-words : nodeSlots ≤ length (p .nodes)
   pub gates : gatesNumber (modeOf (p .lookup)) (p .allowed) (gatesGiven p) (p .«gate_count») ≡ 0
   pub nodes : Sturdy (planExtra p) (gatesGiven p) (p .«gate_count») (p .nodes) (p .«node_count») (p .degree) (p .constants) (p .factor)
 
@@ -54,13 +56,15 @@ fault-none p e =
     let b = pick-zero (leb 1 n) _ 19 (omega arith) (a .1) in
     let c = pick-zero (leb n mostGates) _ 19 (omega arith) (b .1) in
     let w = pick-zero (leb (n * gateWords) (length (p .gates))) _ 19 (omega arith) (c .1) in
-    let d = pick-zero (eqb (gatesNumber (modeOf (p .lookup)) (p .allowed) gs n) 0) _ 19 (omega arith) (w .1) in
+    let v = pick-zero (leb nodeSlots (length (p .nodes))) _ 19 (omega arith) (w .1) in
+    let d = pick-zero (eqb (gatesNumber (modeOf (p .lookup)) (p .allowed) gs n) 0) _ 19 (omega arith) (v .1) in
     let f = pick-zero (nodesFit (planExtra p) gs n (p .nodes) (p .«node_count») (p .degree) (p .constants) (p .factor)) 0 19 (omega arith) (d .1) in
     record {
       parameters = eqb-true (parametersNumber (parametersOf p)) 0 (a .0);
       some-gates = leb-true 1 n (b .0);
       few-gates = leb-true n mostGates (c .0);
       words = leb-true (n * gateWords) (length (p .gates)) (w .0);
+      node-words = leb-true nodeSlots (length (p .nodes)) (v .0);
       gates = eqb-true (gatesNumber (modeOf (p .lookup)) (p .allowed) gs n) 0 (d .0);
       nodes = sturdy (planExtra p) gs n (p .nodes) (p .«node_count») (p .degree) (p .constants) (p .factor) (f .0);
     }
@@ -201,6 +205,7 @@ module _ (ps : Parameters) (gs : List ℕ) where
         le-leb 1 (gateCount gs) (w .some-gates),
         le-leb (gateCount gs) mostGates (w .few-gates),
         le-leb (gateCount gs * gateWords) (length (gateArray gs)) (omega (arith, w .words, length-append gs (drop (length gs) (replicate gateSlots 0)))),
+        le-leb nodeSlots (length (nodeWords t)) (omega (arith, laid-length t 0 (replicate nodeSlots 0), length-replicate {A = ℕ} nodeSlots 0)),
         eq-eqb (gatesNumber (ps .mode) (ps .allowed) gs (gateCount gs)) 0 (w .gates),
         own-passes gs (gateCount gs) (extraOf (ps .mode)) (w .sound) t e,
       )

@@ -6,7 +6,7 @@ ghost use lib.ListN.{length, getD};
 ghost use Rattle.base.specs.Limits.{mostGates};
 ghost use Rattle.selector.specs.Gates.{gateWords};
 ghost use Rattle.selector.specs.Inner.{Sound};
-ghost use Rattle.selector.specs.Nodes.{treeAt, mostNodes};
+ghost use Rattle.selector.specs.Nodes.{treeAt, mostNodes, nodeSlots};
 ghost use Rattle.selector.specs.MadeUp.{linkedAt, linkedFrom, wanted, asWanted, nodesFit, numbersAre};
 ghost use Rattle.selector.specs.Walk.{meet, Visited, Links};
 ghost use Rattle.tree.specs.Walks.{walk, Most};
@@ -20,7 +20,6 @@ use selector::MOST_LEVELS;
 use selector::MOST_NODES;
 use selector::Marks;
 use selector::NODE_WORDS;
-use selector::Nodes;
 
 // A leaf is met: a gate that is unlisted or met before ends the walk. `most` has the greatest degree at depth and the greatest constants plus depth so far.
 fn meet(
@@ -55,7 +54,7 @@ fn meet(
 // The tree at a node is walked, at most `levels` deep; whether nothing was wrong. A gate met twice ends the walk, so that it is linear in the gates however the nodes point at one another.
 fn visit<'a>(
     gates: &'a [u64],
-    nodes: &'a Nodes,
+    nodes: &'a [u64],
     marks: &mut Marks,
     most: &mut [u64; 2],
     many: usize,
@@ -67,7 +66,7 @@ fn visit<'a>(
 ) -> bool
     requires { ⌜ Sound (now gates) many extra ⌝ }
     requires { ⌜ Links (now nodes) count ⌝ }
-    requires { ⌜ (at < count) × (count ≤ mostNodes) × (level + levels ≤ 100) × (length (now most) ≡ 2) ⌝ }
+    requires { ⌜ (at < count) × (count ≤ mostNodes) × (level + levels ≤ 100) × (length (now most) ≡ 2) × (nodeSlots ≤ length (now nodes)) ⌝ }
     ensures { λ r. ⌜ Visited extra (now (gates .entry)) many (treeAt levels (now (nodes .entry)) at) level (walk (now (marks .entry)) (now (most .entry)) true) (walk (now (marks .exit)) (now (most .exit)) r) ⌝ }
     ensures { λ _. ⌜ Most (now (most .entry)) (now (most .exit)) ⌝ }
 {
@@ -76,15 +75,8 @@ fn visit<'a>(
     }
     let left = nodes[at * NODE_WORDS] as usize;
     if left == 0 {
-        return meet(
-            gates,
-            marks,
-            most,
-            many,
-            nodes[at * NODE_WORDS + 2],
-            level,
-            extra,
-        );
+        let gate = nodes[at * NODE_WORDS + 2];
+        return meet(gates, marks, most, many, gate, level, extra);
     }
     let fine = visit(
         gates,
@@ -117,8 +109,8 @@ fn visit<'a>(
 }
 
 // Whether a node is a leaf, without child words, or has both children behind it and within the nodes.
-fn linked_at(nodes: &Nodes, count: usize, at: usize) -> bool
-    requires { ⌜ (at < count) × (count ≤ mostNodes) ⌝ }
+fn linked_at(nodes: &[u64], count: usize, at: usize) -> bool
+    requires { ⌜ (at < count) × (count ≤ mostNodes) × (nodeSlots ≤ length (now nodes)) ⌝ }
     ensures { λ r. ⌜ r ≡ linkedAt (now (nodes .entry)) count at ⌝ }
 {
     let left = nodes[at * NODE_WORDS] as usize;
@@ -136,8 +128,8 @@ fn linked_at(nodes: &Nodes, count: usize, at: usize) -> bool
     false
 }
 
-fn linked(nodes: &Nodes, count: usize) -> bool
-    requires { ⌜ count ≤ mostNodes ⌝ }
+fn linked(nodes: &[u64], count: usize) -> bool
+    requires { ⌜ (count ≤ mostNodes) × (nodeSlots ≤ length (now nodes)) ⌝ }
     ensures { λ r. ⌜ r ≡ linkedFrom count (now (nodes .entry)) count 0 ⌝ }
 {
     let mut i: usize = 0;
@@ -196,13 +188,14 @@ fn numbers_fit(degree: u64, constants: u64, told: Told) -> bool
 // Whether the nodes are a tree of the placed gates, and D, K and F are its own.
 pub(crate) fn nodes_fit<'a>(
     gates: &'a [u64],
-    nodes: &'a Nodes,
+    nodes: &'a [u64],
     many: usize,
     count: usize,
     extra: u64,
     told: Told,
 ) -> bool
     requires { ⌜ Sound (now gates) many extra ⌝ }
+    requires { ⌜ nodeSlots ≤ length (now nodes) ⌝ }
     ensures { λ r. ⌜ r ≡ nodesFit extra (now (gates .entry)) many (now (nodes .entry)) count (told .degree) (told .constants) (told .factor) ⌝ }
 {
     if count == 0 {

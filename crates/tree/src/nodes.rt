@@ -83,31 +83,13 @@ fn lay<'a>(
         degree: stats.degree,
         constants: stats.constants,
     };
-    let done = lay(
-        gates,
-        old,
-        new,
-        many,
-        left,
-        level + 1,
-        levels - 1,
-        extra,
-        inner,
-    );
+    let below = level + 1;
+    let rest = levels - 1;
+    let done = lay(gates, old, new, many, left, below, rest, extra, inner);
     let after = done.next;
     let right = old[at * NODE_WORDS + 1] as usize;
     put_node(new, next, (next + 1) as u64, after as u64, 0);
-    lay(
-        gates,
-        old,
-        new,
-        many,
-        right,
-        level + 1,
-        levels - 1,
-        extra,
-        done,
-    )
+    lay(gates, old, new, many, right, below, rest, extra, done)
 }
 
 // The shape of a list of gates.

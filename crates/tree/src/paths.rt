@@ -2,15 +2,15 @@
 ghost use mathlib.Core.Path.{_≡_};
 ghost use mathlib.Core.Option.{some};
 ghost use Prim.Native.Nat.{ℕ, _+_, _^_, _≤_, _<_};
+ghost use lib.ListN.{length};
 ghost use Rattle.selector.specs.Tree.{Tree};
 ghost use Rattle.selector.specs.Paths.{pathTo};
-ghost use Rattle.selector.specs.Nodes.{treeAt, mostNodes, mostLevels};
+ghost use Rattle.selector.specs.Nodes.{treeAt, mostNodes, nodeSlots, mostLevels};
 ghost use Rattle.selector.specs.Walk.{Links};
 ghost use Rattle.tree.specs.Placements.{spelled, pathWords, placed};
 use selector::MOST_GATES;
 use selector::Marks;
 use selector::NODE_WORDS;
-use selector::Nodes;
 
 // A path's bits, the step from the root least, and its length; zeros where the gate was not found.
 pub struct Placement {
@@ -21,14 +21,14 @@ pub struct Placement {
 
 // The path from a node to a gate, at most `levels` deep.
 pub(crate) fn output_placement(
-    nodes: &Nodes,
+    nodes: &[u64],
     count: usize,
     at: usize,
     gate: u64,
     levels: u64,
 ) -> Placement
     requires { ⌜ Links (now nodes) count ⌝ }
-    requires { ⌜ (at < count) × (count ≤ mostNodes) × (levels ≤ mostLevels) ⌝ }
+    requires { ⌜ (at < count) × (count ≤ mostNodes) × (levels ≤ mostLevels) × (nodeSlots ≤ length (now nodes)) ⌝ }
     ensures { λ r. ⌜ ((t : Tree) → treeAt levels (now (nodes .entry)) at ≡ some t → r ≡ spelled (pathTo gate t)) ⌝ }
     ensures { λ r. ⌜ (r .bits < 2 ^ levels) × (r .length ≤ levels) ⌝ }
 {
@@ -70,7 +70,7 @@ pub(crate) fn output_placement(
 // The path of each gate at a leaf below a node, at most `levels` deep, is written. `path` and `depth` are the bits and the length of the node's own path, and
 // `weight`, 2 to the depth, is what a step to the left adds. The right side comes first, so that of two leaves of one gate the left one's path stays, as `output_placement` finds it.
 pub(crate) fn all_placements(
-    nodes: &Nodes,
+    nodes: &[u64],
     count: usize,
     at: usize,
     path: u64,
@@ -81,7 +81,7 @@ pub(crate) fn all_placements(
     lengths: &mut Marks,
 )
     requires { ⌜ Links (now nodes) count ⌝ }
-    requires { ⌜ (at < count) × (count ≤ mostNodes) × (path < weight) × (weight ≡ 2 ^ depth) × (depth + levels ≤ mostLevels) ⌝ }
+    requires { ⌜ (at < count) × (count ≤ mostNodes) × (path < weight) × (weight ≡ 2 ^ depth) × (depth + levels ≤ mostLevels) × (nodeSlots ≤ length (now nodes)) ⌝ }
     ensures { λ _. ⌜ ((t : Tree) → treeAt levels (now (nodes .entry)) at ≡ some t → pathWords (now (bits .exit)) (now (lengths .exit)) ≡ placed t path weight depth (pathWords (now (bits .entry)) (now (lengths .entry)))) ⌝ }
 {
     if levels == 0 {

@@ -105,7 +105,7 @@ impl Outline {
 }
 
 // 19 for the parts of a made-up plan, else 0. The words are lent: a caller who holds them hands over no copy of nine kilobytes.
-pub fn parts_fault<'a>(outline: Outline, gates: &'a [u64], nodes: &'a Nodes) -> u64
+pub fn parts_fault<'a>(outline: Outline, gates: &'a [u64], nodes: &'a [u64]) -> u64
     ensures { λ r. ⌜ r ≡ planFault (planIn outline (now (gates .entry)) (now (nodes .entry))) ⌝ }
 {
     let parameters = outline.parameters();
@@ -123,6 +123,9 @@ pub fn parts_fault<'a>(outline: Outline, gates: &'a [u64], nodes: &'a Nodes) -> 
     let end = many * GATE_WORDS;
     if gates.len() < end {
         return 19; // a plan's own array is never too short, a slice may be
+    }
+    if nodes.len() < NODE_SLOTS {
+        return 19; // nor is its own array of nodes
     }
     let words = &gates[..end];
     if gates_number(words, many, parameters.mode, parameters.allowed) != 0 {
@@ -143,7 +146,7 @@ pub fn parts_fault<'a>(outline: Outline, gates: &'a [u64], nodes: &'a Nodes) -> 
 }
 
 // What rows need of each gate of a plan, from its parts: one test of the plan, and one walk of its tree.
-pub fn parts_rows<'a>(outline: Outline, gates: &'a [u64], nodes: &'a Nodes) -> GateRows
+pub fn parts_rows<'a>(outline: Outline, gates: &'a [u64], nodes: &'a [u64]) -> GateRows
     ensures { λ r. ⌜ r ≡ gateRowsAnswer (planIn outline (now (gates .entry)) (now (nodes .entry))) ⌝ }
 {
     if parts_fault(outline, gates, nodes) != 0 {

@@ -33,7 +33,7 @@ visit-returns : (t : ℕ) → visit-lts.Need-returns (
   visit.Post,
 ) (visit-at t) visit.Post
 visit-returns t c =
-    let s = c .before .before in
+    let s = c .before .before .before in
     let a = s .args in
     (visit-none (a .extra) (a .gates .now) (a .many) (a .nodes .now) (a .at) (a .level) (walk (a .marks .now) (a .most .now) true) (a .levels) (lost (walk (a .marks .now) (a .most .now) true)) (c .if1 .taken) refl, record { two = s .pre .1 .1 .1 .3; small = omega arith })
 
@@ -44,7 +44,7 @@ visit-mul-left : (t : ℕ) → visit-lts.Need-mul-left (
   visit.Post,
 ) (visit-at t) visit.Post
 visit-mul-left t c =
-    let s = c .before .before in
+    let s = c .before .before .before in
     let p = s .pre .1 in
     omega (arith, p .1 .1)
 
@@ -55,61 +55,61 @@ visit-mul-left-2 : (t : ℕ) → visit-lts.Need-mul-left-2 (
   visit.Post,
 ) (visit-at t) visit.Post
 visit-mul-left-2 t c =
-    let s = c .before .before in
+    let s = c .before .before .before in
     let p = s .pre .1 in
     omega (arith, p .1 .1)
 
-visit-element-copy-out-left : (t : ℕ) → visit-lts.Need-element-copy-out-left (
+visit-shared-slice-read-left : (t : ℕ) → visit-lts.Need-shared-slice-read-left (
   meet-reads.Asked,
   meet-reads.Learnt,
   visit-below t,
   visit.Post,
 ) (visit-at t) visit.Post
-visit-element-copy-out-left t c =
-    let s = c .before .before in
+visit-shared-slice-read-left t c =
+    let s = c .before .before .before .before in
     let p = s .pre .1 in
     omega (arith, p .1 .1)
 
-visit-mul-meet : (t : ℕ) → visit-lts.Need-mul-meet (
+visit-mul-gate : (t : ℕ) → visit-lts.Need-mul-gate (
   meet-reads.Asked,
   meet-reads.Learnt,
   visit-below t,
   visit.Post,
 ) (visit-at t) visit.Post
-visit-mul-meet t c =
-    let s = c .before .before .before .before .before .before in
+visit-mul-gate t c =
+    let s = c .before .before .before .before .before in
     let p = s .pre .1 in
     omega (arith, p .1 .1)
 
-visit-add-meet : (t : ℕ) → visit-lts.Need-add-meet (
+visit-add-gate : (t : ℕ) → visit-lts.Need-add-gate (
   meet-reads.Asked,
   meet-reads.Learnt,
   visit-below t,
   visit.Post,
 ) (visit-at t) visit.Post
-visit-add-meet t c =
-    let s = c .before .before .before .before .before .before in
+visit-add-gate t c =
+    let s = c .before .before .before .before .before in
     let p = s .pre .1 in
     omega (arith, p .1 .1)
 
-visit-mul-meet-2 : (t : ℕ) → visit-lts.Need-mul-meet-2 (
+visit-mul-gate-2 : (t : ℕ) → visit-lts.Need-mul-gate-2 (
   meet-reads.Asked,
   meet-reads.Learnt,
   visit-below t,
   visit.Post,
 ) (visit-at t) visit.Post
-visit-mul-meet-2 t c =
-    let s = c .before .before .before .before .before .before in
+visit-mul-gate-2 t c =
+    let s = c .before .before .before .before .before in
     let p = s .pre .1 in
     omega (arith, p .1 .1)
 
-visit-element-copy-out-meet : (t : ℕ) → visit-lts.Need-element-copy-out-meet (
+visit-shared-slice-read-gate : (t : ℕ) → visit-lts.Need-shared-slice-read-gate (
   meet-reads.Asked,
   meet-reads.Learnt,
   visit-below t,
   visit.Post,
 ) (visit-at t) visit.Post
-visit-element-copy-out-meet t c =
+visit-shared-slice-read-gate t c =
     let s = c .before .before .before .before .before .before in
     let p = s .pre .1 in
     omega (arith, p .1 .1)
@@ -121,7 +121,7 @@ visit-meet-requires : (t : ℕ) → visit-lts.Need-meet-requires (
   visit.Post,
 ) (visit-at t) visit.Post
 visit-meet-requires t c κs =
-    let s = c .before .before .before .before .before .before .before in
+    let s = c .before .before .before .before .before .before .before .before in
     let p = s .pre .1 in
     (p .0, (omega (arith, p .1 .1 .2), p .1 .1 .3))
 
@@ -132,7 +132,7 @@ visit-returns-2 : (t : ℕ) → visit-lts.Need-returns-2 (
   visit.Post,
 ) (visit-at t) visit.Post
 visit-returns-2 t c =
-    let s = c .before .before .before .before .before .before .before .before in
+    let s = c .before .before .before .before .before .before .before .before .before in
     let a = s .args in
     (visit-leaf (a .extra) (a .gates .now) (a .many) (a .nodes .now) (a .at) (a .level) (walk (a .marks .now) (a .most .now) true) (a .levels) _ (omega (arith, c .before .before .before .before .before .before .if1 .left)) (c .before .before .before .before .if2 .taken) (c .meet .ensures .0), c .meet .ensures .1)
 
@@ -143,7 +143,7 @@ visit-add-visit : (t : ℕ) → visit-lts.Need-add-visit (
   visit.Post,
 ) (visit-at t) visit.Post
 visit-add-visit t c =
-    let s = c .before .before .before .before .before .before in
+    let s = c .before .before .before .before .before .before .before in
     let p = s .pre .1 in
     omega (arith, p .1 .1)
 
@@ -154,7 +154,7 @@ visit-sub-visit : (t : ℕ) → visit-lts.Need-sub-visit (
   visit.Post,
 ) (visit-at t) visit.Post
 visit-sub-visit t c =
-    let s = c .before .before .before .before .before .before in
+    let s = c .before .before .before .before .before .before .before in
     let p = s .pre .1 in
     omega (arith, p .1 .1, c .before .before .before .before .if1 .left)
 
@@ -165,11 +165,11 @@ visit-visit-requires : (t : ℕ) → visit-lts.Need-visit-requires (
   visit.Post,
 ) (visit-at t) visit.Post
 visit-visit-requires t c κs =
-    let s = c .before .before .before .before .before .before in
+    let s = c .before .before .before .before .before .before .before in
     let a = s .args in
     let p = s .pre .1 in
     let m = c .before .before .before .before .if1 .left in
-    (omega (arith, m), (p .0, (p .1 .0, (p .1 .0 (a .at) (p .1 .1 .0) (c .before .before .if2 .left) .0, p .1 .1 .1, omega (arith, p .1 .1 .2, m), p .1 .1 .3))))
+    (omega (arith, m), (p .0, (p .1 .0, (p .1 .0 (a .at) (p .1 .1 .0) (c .before .before .if2 .left) .0, p .1 .1 .1, omega (arith, p .1 .1 .2, m), p .1 .1 .3, p .1 .1 .4))))
 
 visit-mul-right : (t : ℕ) → visit-lts.Need-mul-right (
   meet-reads.Asked,
@@ -178,7 +178,7 @@ visit-mul-right : (t : ℕ) → visit-lts.Need-mul-right (
   visit.Post,
 ) (visit-at t) visit.Post
 visit-mul-right t c =
-    let s = c .before .before .before .before .before .before .before .before in
+    let s = c .before .before .before .before .before .before .before .before .before in
     let p = s .pre .1 in
     omega (arith, p .1 .1)
 
@@ -189,7 +189,7 @@ visit-add-right : (t : ℕ) → visit-lts.Need-add-right (
   visit.Post,
 ) (visit-at t) visit.Post
 visit-add-right t c =
-    let s = c .before .before .before .before .before .before .before .before in
+    let s = c .before .before .before .before .before .before .before .before .before in
     let p = s .pre .1 in
     omega (arith, p .1 .1)
 
@@ -200,18 +200,18 @@ visit-mul-right-2 : (t : ℕ) → visit-lts.Need-mul-right-2 (
   visit.Post,
 ) (visit-at t) visit.Post
 visit-mul-right-2 t c =
-    let s = c .before .before .before .before .before .before .before .before in
+    let s = c .before .before .before .before .before .before .before .before .before in
     let p = s .pre .1 in
     omega (arith, p .1 .1)
 
-visit-element-copy-out-right : (t : ℕ) → visit-lts.Need-element-copy-out-right (
+visit-shared-slice-read-right : (t : ℕ) → visit-lts.Need-shared-slice-read-right (
   meet-reads.Asked,
   meet-reads.Learnt,
   visit-below t,
   visit.Post,
 ) (visit-at t) visit.Post
-visit-element-copy-out-right t c =
-    let s = c .before .before .before .before .before .before .before .before in
+visit-shared-slice-read-right t c =
+    let s = c .before .before .before .before .before .before .before .before .before .before in
     let p = s .pre .1 in
     omega (arith, p .1 .1)
 
@@ -222,7 +222,7 @@ visit-add-visit-2 : (t : ℕ) → visit-lts.Need-add-visit-2 (
   visit.Post,
 ) (visit-at t) visit.Post
 visit-add-visit-2 t c =
-    let s = c .before .before .before .before .before .before .before .before .before .before .before in
+    let s = c .before .before .before .before .before .before .before .before .before .before .before .before in
     let p = s .pre .1 in
     omega (arith, p .1 .1)
 
@@ -233,7 +233,7 @@ visit-sub-visit-2 : (t : ℕ) → visit-lts.Need-sub-visit-2 (
   visit.Post,
 ) (visit-at t) visit.Post
 visit-sub-visit-2 t c =
-    let s = c .before .before .before .before .before .before .before .before .before .before .before in
+    let s = c .before .before .before .before .before .before .before .before .before .before .before .before in
     let p = s .pre .1 in
     omega (arith, p .1 .1, c .before .before .before .before .before .before .before .before .before .if1 .left)
 
@@ -244,11 +244,11 @@ visit-visit-requires-2 : (t : ℕ) → visit-lts.Need-visit-requires-2 (
   visit.Post,
 ) (visit-at t) visit.Post
 visit-visit-requires-2 t c κs =
-    let s = c .before .before .before .before .before .before .before .before .before .before .before in
+    let s = c .before .before .before .before .before .before .before .before .before .before .before .before in
     let a = s .args in
     let p = s .pre .1 in
     let m = c .before .before .before .before .before .before .before .before .before .if1 .left in
-    (omega (arith, m), (p .0, (p .1 .0, (p .1 .0 (a .at) (p .1 .1 .0) (c .before .before .before .before .before .before .before .if2 .left) .1, p .1 .1 .1, omega (arith, p .1 .1 .2, m), c .before .before .before .before .visit .ensures .1 .two))))
+    (omega (arith, m), (p .0, (p .1 .0, (p .1 .0 (a .at) (p .1 .1 .0) (c .before .before .before .before .before .before .before .if2 .left) .1, p .1 .1 .1, omega (arith, p .1 .1 .2, m), c .before .before .before .before .visit .ensures .1 .two, p .1 .1 .4))))
 
 visit-returns-3 : (t : ℕ) → visit-lts.Need-returns-3 (
   meet-reads.Asked,
@@ -257,7 +257,7 @@ visit-returns-3 : (t : ℕ) → visit-lts.Need-returns-3 (
   visit.Post,
 ) (visit-at t) visit.Post
 visit-returns-3 t c =
-    let s = c .before .before .before .before .before .before .before .before .before .before .before .before in
+    let s = c .before .before .before .before .before .before .before .before .before .before .before .before .before in
     let a = s .args in
     let one = c .before .before .before .before .before .visit in
     let fine = c .before .before .before .before .if3 .taken in
@@ -273,7 +273,7 @@ visit-returns-4 : (t : ℕ) → visit-lts.Need-returns-4 (
   visit.Post,
 ) (visit-at t) visit.Post
 visit-returns-4 t c =
-    let s = c .before .before .before .before .before .before .before .before in
+    let s = c .before .before .before .before .before .before .before .before .before in
     let a = s .args in
     let one = c .before .visit in
     (visit-stop (a .extra) (a .gates .now) (a .many) (a .nodes .now) (a .at) (a .level) (walk (a .marks .now) (a .most .now) true) (a .levels) _ (omega (arith, c .before .before .before .before .before .before .if1 .left)) (c .before .before .before .before .if2 .left) (rw (c .if3 .left) at (one .ensures .0)) refl, one .ensures .1)
@@ -290,11 +290,11 @@ pub +visit-spec : {M : Type 1} → statement M
     (visit-returns t)
     (visit-mul-left t)
     (visit-mul-left-2 t)
-    (visit-element-copy-out-left t)
-    (visit-mul-meet t)
-    (visit-add-meet t)
-    (visit-mul-meet-2 t)
-    (visit-element-copy-out-meet t)
+    (visit-shared-slice-read-left t)
+    (visit-mul-gate t)
+    (visit-add-gate t)
+    (visit-mul-gate-2 t)
+    (visit-shared-slice-read-gate t)
     (visit-meet-requires t)
     (visit-returns-2 t)
     (visit-add-visit t)
@@ -303,7 +303,7 @@ pub +visit-spec : {M : Type 1} → statement M
     (visit-mul-right t)
     (visit-add-right t)
     (visit-mul-right-2 t)
-    (visit-element-copy-out-right t)
+    (visit-shared-slice-read-right t)
     (visit-add-visit-2 t)
     (visit-sub-visit-2 t)
     (visit-visit-requires-2 t)

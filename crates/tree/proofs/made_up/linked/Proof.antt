@@ -17,11 +17,11 @@ abbrev μ-loop : tie.MeasureT-loop
 μ-loop nodes count i₀ i = count - i
 
 loop-holds : tie.Need-loop-holds Inv-loop μ-loop
-loop-holds c = (omega arith, linked-begin (c .args .nodes .now) (c .args .count))
+loop-holds c = (omega arith, linked-begin (c .before .args .nodes .now) (c .before .args .count))
 
 linked-at-requires : tie.Need-linked-at-requires Inv-loop μ-loop
 linked-at-requires c κs =
-    (c .loop-test .taken, c .before .before .pre)
+    (c .loop-test .taken, c .before .before .before .pre .0, c .before .before .before .pre .1)
 
 add-i : tie.Need-add-i Inv-loop μ-loop
 add-i c = omega arith
@@ -32,7 +32,7 @@ loop-less c = search needs
 loop-again : tie.Need-loop-again Inv-loop μ-loop
 loop-again c =
     let l = c .before .before .before .loop in
-    let s = c .before .before .before .before in
+    let s = c .before .before .before .before .before in
     let a = s .args in
     let ns = a .nodes .now in
     let e : a .count - l .i - 1 ≡ a .count - (l .i + 1) = omega arith in
@@ -41,7 +41,7 @@ loop-again c =
 returns : tie.Need-returns Inv-loop μ-loop
 returns c =
     let l = c .before .before .before .loop in
-    let s = c .before .before .before .before in
+    let s = c .before .before .before .before .before in
     let a = s .args in
     let ns = a .nodes .now in
     sym (l .inv .1 ∙ linked-step ns (a .count) (a .count - l .i) (l .i) (omega (arith, c .before .before .loop-test .taken)) ∙ pick-no (linkedAt ns (a .count) (l .i)) _ _ (sym (c .before .linked-at .ensures) ∙ c .if1 .left))
@@ -49,7 +49,7 @@ returns c =
 returns-2 : tie.Need-returns-2 Inv-loop μ-loop
 returns-2 c =
     let l = c .before .loop in
-    let s = c .before .before in
+    let s = c .before .before .before in
     let a = s .args in
     let ns = a .nodes .now in
     sym (l .inv .1 ∙ linked-end ns (a .count) (a .count - l .i) (l .i) (omega (arith, c .loop-test .left)))

@@ -32,8 +32,8 @@ mul-left c = omega arith
 mul-left-2 : tie.Need-mul-left-2
 mul-left-2 c = omega arith
 
-element-copy-out-left : tie.Need-element-copy-out-left
-element-copy-out-left c = omega arith
+shared-slice-read-left : tie.Need-shared-slice-read-left
+shared-slice-read-left c = omega arith
 
 mul-right : tie.Need-mul-right
 mul-right c = omega arith
@@ -44,8 +44,8 @@ add-right c = omega arith
 mul-right-2 : tie.Need-mul-right-2
 mul-right-2 c = omega arith
 
-element-copy-out-right : tie.Need-element-copy-out-right
-element-copy-out-right c = omega arith
+shared-slice-read-right : tie.Need-shared-slice-read-right
+shared-slice-read-right c = omega arith
 
 returns : tie.Need-returns
 returns c =
@@ -78,11 +78,11 @@ linked-at-spec =
     (tie.spec
     mul-left
     mul-left-2
-    element-copy-out-left
+    shared-slice-read-left
     mul-right
     add-right
     mul-right-2
-    element-copy-out-right
+    shared-slice-read-right
     returns
     returns-2
     returns-3

@@ -286,7 +286,7 @@ lay-greater-requires-2 : (t : ℕ) → lay-lts.Need-greater-requires-2 (
 ) (lay-at t) lay.Post
 lay-greater-requires-2 t c κs = search needs
 
-lay-add-t25 : (t : ℕ) → lay-lts.Need-add-t25 (
+lay-add-t27 : (t : ℕ) → lay-lts.Need-add-t27 (
   put-node-reads.Asked,
   put-node-reads.Learnt,
   degree-at-depth-reads.Asked,
@@ -298,7 +298,7 @@ lay-add-t25 : (t : ℕ) → lay-lts.Need-add-t25 (
   lay-below t,
   lay.Post,
 ) (lay-at t) lay.Post
-lay-add-t25 t c =
+lay-add-t27 t c =
     let s = c .before .before .before .before .before .before .before .before .before .before .before in
     let a = s .args in
     let p = s .pre .1 in
@@ -344,7 +344,7 @@ lay-add-right t c =
     let w = p .1 .0 in
     omega (arith, room-next (a .many) (a .old .now) (a .at) (a .levels) (a .stats .next) w)
 
-lay-add-lay : (t : ℕ) → lay-lts.Need-add-lay (
+lay-add-below : (t : ℕ) → lay-lts.Need-add-below (
   put-node-reads.Asked,
   put-node-reads.Learnt,
   degree-at-depth-reads.Asked,
@@ -356,12 +356,12 @@ lay-add-lay : (t : ℕ) → lay-lts.Need-add-lay (
   lay-below t,
   lay.Post,
 ) (lay-at t) lay.Post
-lay-add-lay t c =
-    let s = c .before .before .before .before .before in
+lay-add-below t c =
+    let s = c .before .before .before .before in
     let p = s .pre .1 in
     omega (arith, p .1 .1)
 
-lay-sub-lay : (t : ℕ) → lay-lts.Need-sub-lay (
+lay-sub-rest : (t : ℕ) → lay-lts.Need-sub-rest (
   put-node-reads.Asked,
   put-node-reads.Learnt,
   degree-at-depth-reads.Asked,
@@ -373,8 +373,8 @@ lay-sub-lay : (t : ℕ) → lay-lts.Need-sub-lay (
   lay-below t,
   lay.Post,
 ) (lay-at t) lay.Post
-lay-sub-lay t c =
-    let s = c .before .before .before .before .before in
+lay-sub-rest t c =
+    let s = c .before .before .before .before in
     let a = s .args in
     let p = s .pre .1 in
     let w = p .1 .0 in
@@ -513,42 +513,6 @@ lay-put-node-requires-2 t c κs =
     let w = p .1 .0 in
     omega (arith, room-next (a .many) (a .old .now) (a .at) (a .levels) (a .stats .next) w)
 
-lay-add-lay-2 : (t : ℕ) → lay-lts.Need-add-lay-2 (
-  put-node-reads.Asked,
-  put-node-reads.Learnt,
-  degree-at-depth-reads.Asked,
-  degree-at-depth-reads.Learnt,
-  greater-reads.Asked,
-  greater-reads.Learnt,
-  constants-of-reads.Asked,
-  constants-of-reads.Learnt,
-  lay-below t,
-  lay.Post,
-) (lay-at t) lay.Post
-lay-add-lay-2 t c =
-    let s = c .before .before .before .before .before .before .before .before .before .before in
-    let p = s .pre .1 in
-    omega (arith, p .1 .1)
-
-lay-sub-lay-2 : (t : ℕ) → lay-lts.Need-sub-lay-2 (
-  put-node-reads.Asked,
-  put-node-reads.Learnt,
-  degree-at-depth-reads.Asked,
-  degree-at-depth-reads.Learnt,
-  greater-reads.Asked,
-  greater-reads.Learnt,
-  constants-of-reads.Asked,
-  constants-of-reads.Learnt,
-  lay-below t,
-  lay.Post,
-) (lay-at t) lay.Post
-lay-sub-lay-2 t c =
-    let s = c .before .before .before .before .before .before .before .before .before .before in
-    let a = s .args in
-    let p = s .pre .1 in
-    let w = p .1 .0 in
-    omega (arith, room-level (a .many) (a .old .now) (a .at) (a .levels) (a .stats .next) w)
-
 lay-lay-requires-2 : (t : ℕ) → lay-lts.Need-lay-requires-2 (
   put-node-reads.Asked,
   put-node-reads.Learnt,
@@ -617,11 +581,11 @@ pub +lay-spec : {M : Type 1} → statement M
     (lay-constants-of-requires t)
     (lay-add-greater t)
     (lay-greater-requires-2 t)
-    (lay-add-t25 t)
+    (lay-add-t27 t)
     (lay-returns-2 t)
     (lay-add-right t)
-    (lay-add-lay t)
-    (lay-sub-lay t)
+    (lay-add-below t)
+    (lay-sub-rest t)
     (lay-lay-requires t)
     (lay-mul-right t)
     (lay-add-right-2 t)
@@ -629,7 +593,5 @@ pub +lay-spec : {M : Type 1} → statement M
     (lay-element-copy-out-right t)
     (lay-add-put-node t)
     (lay-put-node-requires-2 t)
-    (lay-add-lay-2 t)
-    (lay-sub-lay-2 t)
     (lay-lay-requires-2 t)
     (lay-returns-3 t)

@@ -37,7 +37,7 @@ all-placements-returns : (t : ℕ) → all-placements-lts.Need-returns (
   all-placements.Post,
 ) (all-placements-at t) all-placements.Post
 all-placements-returns t c =
-    let a = c .before .args in
+    let a = c .before .before .args in
     λ u q. absurd (seek-none (a .nodes .now) (a .at) (a .levels) u (c .if1 .taken) q)
 
 all-placements-mul-left : (t : ℕ) → all-placements-lts.Need-mul-left (
@@ -45,7 +45,7 @@ all-placements-mul-left : (t : ℕ) → all-placements-lts.Need-mul-left (
   all-placements.Post,
 ) (all-placements-at t) all-placements.Post
 all-placements-mul-left t c =
-    let s = c .before in
+    let s = c .before .before in
     omega (arith, s .pre .1 .1)
 
 all-placements-mul-left-2 : (t : ℕ) → all-placements-lts.Need-mul-left-2 (
@@ -53,15 +53,15 @@ all-placements-mul-left-2 : (t : ℕ) → all-placements-lts.Need-mul-left-2 (
   all-placements.Post,
 ) (all-placements-at t) all-placements.Post
 all-placements-mul-left-2 t c =
-    let s = c .before in
+    let s = c .before .before in
     omega (arith, s .pre .1 .1)
 
-all-placements-element-copy-out-left : (t : ℕ) → all-placements-lts.Need-element-copy-out-left (
+all-placements-shared-slice-read-left : (t : ℕ) → all-placements-lts.Need-shared-slice-read-left (
   all-placements-below t,
   all-placements.Post,
 ) (all-placements-at t) all-placements.Post
-all-placements-element-copy-out-left t c =
-    let s = c .before in
+all-placements-shared-slice-read-left t c =
+    let s = c .before .before .before in
     omega (arith, s .pre .1 .1)
 
 all-placements-mul-gate : (t : ℕ) → all-placements-lts.Need-mul-gate (
@@ -69,7 +69,7 @@ all-placements-mul-gate : (t : ℕ) → all-placements-lts.Need-mul-gate (
   all-placements.Post,
 ) (all-placements-at t) all-placements.Post
 all-placements-mul-gate t c =
-    let s = c .before .before .before in
+    let s = c .before .before .before .before in
     omega (arith, s .pre .1 .1)
 
 all-placements-add-gate : (t : ℕ) → all-placements-lts.Need-add-gate (
@@ -77,7 +77,7 @@ all-placements-add-gate : (t : ℕ) → all-placements-lts.Need-add-gate (
   all-placements.Post,
 ) (all-placements-at t) all-placements.Post
 all-placements-add-gate t c =
-    let s = c .before .before .before in
+    let s = c .before .before .before .before in
     omega (arith, s .pre .1 .1)
 
 all-placements-mul-gate-2 : (t : ℕ) → all-placements-lts.Need-mul-gate-2 (
@@ -85,15 +85,15 @@ all-placements-mul-gate-2 : (t : ℕ) → all-placements-lts.Need-mul-gate-2 (
   all-placements.Post,
 ) (all-placements-at t) all-placements.Post
 all-placements-mul-gate-2 t c =
-    let s = c .before .before .before in
+    let s = c .before .before .before .before in
     omega (arith, s .pre .1 .1)
 
-all-placements-element-copy-out-gate : (t : ℕ) → all-placements-lts.Need-element-copy-out-gate (
+all-placements-shared-slice-read-gate : (t : ℕ) → all-placements-lts.Need-shared-slice-read-gate (
   all-placements-below t,
   all-placements.Post,
 ) (all-placements-at t) all-placements.Post
-all-placements-element-copy-out-gate t c =
-    let s = c .before .before .before in
+all-placements-shared-slice-read-gate t c =
+    let s = c .before .before .before .before .before in
     omega (arith, s .pre .1 .1)
 
 all-placements-mul-bits : (t : ℕ) → all-placements-lts.Need-mul-bits (
@@ -129,7 +129,7 @@ all-placements-returns-2 : (t : ℕ) → all-placements-lts.Need-returns-2 (
   all-placements.Post,
 ) (all-placements-at t) all-placements.Post
 all-placements-returns-2 t c =
-    let s = c .before .before .before .before .before in
+    let s = c .before .before .before .before .before .before in
     let a = s .args in
     λ u q. place-leaf (a .nodes .now) (a .at) (a .path) (a .weight) (a .depth) (pathWords (a .bits .now) (a .lengths .now)) (a .levels) u (omega (arith, c .before .before .before .before .if1 .left)) (c .before .before .if2 .taken) q (c .if3 .taken)
 
@@ -138,7 +138,7 @@ all-placements-returns-3 : (t : ℕ) → all-placements-lts.Need-returns-3 (
   all-placements.Post,
 ) (all-placements-at t) all-placements.Post
 all-placements-returns-3 t c =
-    let s = c .before .before .before .before .before in
+    let s = c .before .before .before .before .before .before in
     let a = s .args in
     λ u q. place-past (a .nodes .now) (a .at) (a .path) (a .weight) (a .depth) (pathWords (a .bits .now) (a .lengths .now)) (a .levels) u (omega (arith, c .before .before .before .before .if1 .left)) (c .before .before .if2 .taken) q (omega (arith, c .if3 .left))
 
@@ -147,7 +147,7 @@ all-placements-mul-right : (t : ℕ) → all-placements-lts.Need-mul-right (
   all-placements.Post,
 ) (all-placements-at t) all-placements.Post
 all-placements-mul-right t c =
-    let s = c .before .before .before in
+    let s = c .before .before .before .before in
     omega (arith, s .pre .1 .1)
 
 all-placements-add-right : (t : ℕ) → all-placements-lts.Need-add-right (
@@ -155,7 +155,7 @@ all-placements-add-right : (t : ℕ) → all-placements-lts.Need-add-right (
   all-placements.Post,
 ) (all-placements-at t) all-placements.Post
 all-placements-add-right t c =
-    let s = c .before .before .before in
+    let s = c .before .before .before .before in
     omega (arith, s .pre .1 .1)
 
 all-placements-mul-right-2 : (t : ℕ) → all-placements-lts.Need-mul-right-2 (
@@ -163,15 +163,15 @@ all-placements-mul-right-2 : (t : ℕ) → all-placements-lts.Need-mul-right-2 (
   all-placements.Post,
 ) (all-placements-at t) all-placements.Post
 all-placements-mul-right-2 t c =
-    let s = c .before .before .before in
+    let s = c .before .before .before .before in
     omega (arith, s .pre .1 .1)
 
-all-placements-element-copy-out-right : (t : ℕ) → all-placements-lts.Need-element-copy-out-right (
+all-placements-shared-slice-read-right : (t : ℕ) → all-placements-lts.Need-shared-slice-read-right (
   all-placements-below t,
   all-placements.Post,
 ) (all-placements-at t) all-placements.Post
-all-placements-element-copy-out-right t c =
-    let s = c .before .before .before in
+all-placements-shared-slice-read-right t c =
+    let s = c .before .before .before .before .before in
     omega (arith, s .pre .1 .1)
 
 all-placements-mul-all-placements : (t : ℕ) → all-placements-lts.Need-mul-all-placements (
@@ -179,7 +179,7 @@ all-placements-mul-all-placements : (t : ℕ) → all-placements-lts.Need-mul-al
   all-placements.Post,
 ) (all-placements-at t) all-placements.Post
 all-placements-mul-all-placements t c =
-    let s = c .before .before .before .before in
+    let s = c .before .before .before .before .before in
     let h = pow-room (s .args .depth) (omega (arith, s .pre .1 .1)) in
     omega (arith, s .pre .1 .1, h)
 
@@ -188,7 +188,7 @@ all-placements-add-all-placements : (t : ℕ) → all-placements-lts.Need-add-al
   all-placements.Post,
 ) (all-placements-at t) all-placements.Post
 all-placements-add-all-placements t c =
-    let s = c .before .before .before .before in
+    let s = c .before .before .before .before .before in
     let h = pow-room (s .args .depth) (omega (arith, s .pre .1 .1)) in
     omega (arith, s .pre .1 .1, h)
 
@@ -197,7 +197,7 @@ all-placements-sub-all-placements : (t : ℕ) → all-placements-lts.Need-sub-al
   all-placements.Post,
 ) (all-placements-at t) all-placements.Post
 all-placements-sub-all-placements t c =
-    let s = c .before .before .before .before in
+    let s = c .before .before .before .before .before in
     omega (arith, s .pre .1 .1, c .before .before .before .if1 .left)
 
 all-placements-all-placements-requires : (t : ℕ) → all-placements-lts.Need-all-placements-requires (
@@ -205,18 +205,18 @@ all-placements-all-placements-requires : (t : ℕ) → all-placements-lts.Need-a
   all-placements.Post,
 ) (all-placements-at t) all-placements.Post
 all-placements-all-placements-requires t c κs =
-    let s = c .before .before .before .before .before .before in
+    let s = c .before .before .before .before .before .before .before in
     let a = s .args in
     let p = s .pre .1 in
     let m = c .before .before .before .before .before .if1 .left in
-    (omega (arith, m), (p .0, (p .0 (a .at) (p .1 .0) (c .before .before .before .if2 .left) .1, p .1 .1, omega (arith, p .1), pow-next (a .weight) (a .depth) (p .1 .3), omega (arith, p .1, m))))
+    (omega (arith, m), (p .0, (p .0 (a .at) (p .1 .0) (c .before .before .before .if2 .left) .1, p .1 .1, omega (arith, p .1), pow-next (a .weight) (a .depth) (p .1 .3), omega (arith, p .1, m), p .1 .5)))
 
 all-placements-add-all-placements-2 : (t : ℕ) → all-placements-lts.Need-add-all-placements-2 (
   all-placements-below t,
   all-placements.Post,
 ) (all-placements-at t) all-placements.Post
 all-placements-add-all-placements-2 t c =
-    let s = c .before .before .before .before .before .before .before in
+    let s = c .before .before .before .before .before .before .before .before in
     let h = pow-room (s .args .depth) (omega (arith, s .pre .1 .1)) in
     omega (arith, s .pre .1 .1, h)
 
@@ -225,7 +225,7 @@ all-placements-mul-all-placements-2 : (t : ℕ) → all-placements-lts.Need-mul-
   all-placements.Post,
 ) (all-placements-at t) all-placements.Post
 all-placements-mul-all-placements-2 t c =
-    let s = c .before .before .before .before .before .before .before in
+    let s = c .before .before .before .before .before .before .before .before in
     let h = pow-room (s .args .depth) (omega (arith, s .pre .1 .1)) in
     omega (arith, s .pre .1 .1, h)
 
@@ -234,7 +234,7 @@ all-placements-add-all-placements-3 : (t : ℕ) → all-placements-lts.Need-add-
   all-placements.Post,
 ) (all-placements-at t) all-placements.Post
 all-placements-add-all-placements-3 t c =
-    let s = c .before .before .before .before .before .before .before in
+    let s = c .before .before .before .before .before .before .before .before in
     let h = pow-room (s .args .depth) (omega (arith, s .pre .1 .1)) in
     omega (arith, s .pre .1 .1, h)
 
@@ -243,7 +243,7 @@ all-placements-sub-all-placements-2 : (t : ℕ) → all-placements-lts.Need-sub-
   all-placements.Post,
 ) (all-placements-at t) all-placements.Post
 all-placements-sub-all-placements-2 t c =
-    let s = c .before .before .before .before .before .before .before in
+    let s = c .before .before .before .before .before .before .before .before in
     omega (arith, s .pre .1 .1, c .before .before .before .before .before .before .if1 .left)
 
 all-placements-all-placements-requires-2 :
@@ -252,18 +252,18 @@ all-placements-all-placements-requires-2 :
       all-placements.Post,
     ) (all-placements-at t) all-placements.Post
 all-placements-all-placements-requires-2 t c κs =
-    let s = c .before .before .before .before .before .before .before .before .before in
+    let s = c .before .before .before .before .before .before .before .before .before .before in
     let a = s .args in
     let p = s .pre .1 in
     let m = c .before .before .before .before .before .before .before .before .if1 .left in
-    (omega (arith, m), (p .0, (p .0 (a .at) (p .1 .0) (c .before .before .before .before .before .before .if2 .left) .0, p .1 .1, omega (arith, p .1), pow-next (a .weight) (a .depth) (p .1 .3), omega (arith, p .1, m))))
+    (omega (arith, m), (p .0, (p .0 (a .at) (p .1 .0) (c .before .before .before .before .before .before .if2 .left) .0, p .1 .1, omega (arith, p .1), pow-next (a .weight) (a .depth) (p .1 .3), omega (arith, p .1, m), p .1 .5)))
 
 all-placements-returns-4 : (t : ℕ) → all-placements-lts.Need-returns-4 (
   all-placements-below t,
   all-placements.Post,
 ) (all-placements-at t) all-placements.Post
 all-placements-returns-4 t c =
-    let s = c .before .before .before .before .before .before .before .before .before .before in
+    let s = c .before .before .before .before .before .before .before .before .before .before .before in
     let a = s .args in
     let one = c .before .before .before .all-placements in
     λ u q. let w = halves (a .nodes .now) (a .at) (a .levels) u (omega (arith, c .before .before .before .before .before .before .before .before .before .if1 .left)) (c .before .before .before .before .before .before .before .if2 .left) q in place-fork (w .l) (w .r) u (w .is) (a .path) (a .weight) (a .depth) (pathWords (a .bits .now) (a .lengths .now)) _ _ (one .ensures (w .r) (w .right)) (c .all-placements2 .ensures (w .l) (w .left))
@@ -278,11 +278,11 @@ pub +all-placements-spec : {M : Type 1} → statement M
     (all-placements-returns t)
     (all-placements-mul-left t)
     (all-placements-mul-left-2 t)
-    (all-placements-element-copy-out-left t)
+    (all-placements-shared-slice-read-left t)
     (all-placements-mul-gate t)
     (all-placements-add-gate t)
     (all-placements-mul-gate-2 t)
-    (all-placements-element-copy-out-gate t)
+    (all-placements-shared-slice-read-gate t)
     (all-placements-mul-bits t)
     (all-placements-element-write-bits t)
     (all-placements-mul-lengths t)
@@ -292,7 +292,7 @@ pub +all-placements-spec : {M : Type 1} → statement M
     (all-placements-mul-right t)
     (all-placements-add-right t)
     (all-placements-mul-right-2 t)
-    (all-placements-element-copy-out-right t)
+    (all-placements-shared-slice-read-right t)
     (all-placements-mul-all-placements t)
     (all-placements-add-all-placements t)
     (all-placements-sub-all-placements t)

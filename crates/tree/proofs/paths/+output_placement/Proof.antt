@@ -36,7 +36,7 @@ output-placement-returns : (t : ℕ) → output-placement-lts.Need-returns (
   output-placement.Post,
 ) (output-placement-at t) output-placement.Post
 output-placement-returns t c =
-    let s = c .before in
+    let s = c .before .before in
     let a = s .args in
     let p = s .pre .1 in
     let h = pow-room (a .levels) (p .1 .2) in
@@ -48,7 +48,7 @@ output-placement-mul-left : (t : ℕ) → output-placement-lts.Need-mul-left (
   output-placement.Post,
 ) (output-placement-at t) output-placement.Post
 output-placement-mul-left t c =
-    let s = c .before in
+    let s = c .before .before in
     let a = s .args in
     let p = s .pre .1 in
     let h = pow-room (a .levels) (p .1 .2) in
@@ -60,30 +60,18 @@ output-placement-mul-left-2 : (t : ℕ) → output-placement-lts.Need-mul-left-2
   output-placement.Post,
 ) (output-placement-at t) output-placement.Post
 output-placement-mul-left-2 t c =
-    let s = c .before in
+    let s = c .before .before in
     let a = s .args in
     let p = s .pre .1 in
     let h = pow-room (a .levels) (p .1 .2) in
     let z = pow-some (a .levels) in
     omega (arith, p .1)
 
-output-placement-element-copy-out-left : (t : ℕ) → output-placement-lts.Need-element-copy-out-left (
+output-placement-shared-slice-read-left : (t : ℕ) → output-placement-lts.Need-shared-slice-read-left (
   output-placement-below t,
   output-placement.Post,
 ) (output-placement-at t) output-placement.Post
-output-placement-element-copy-out-left t c =
-    let s = c .before in
-    let a = s .args in
-    let p = s .pre .1 in
-    let h = pow-room (a .levels) (p .1 .2) in
-    let z = pow-some (a .levels) in
-    omega (arith, p .1)
-
-output-placement-mul-t16 : (t : ℕ) → output-placement-lts.Need-mul-t16 (
-  output-placement-below t,
-  output-placement.Post,
-) (output-placement-at t) output-placement.Post
-output-placement-mul-t16 t c =
+output-placement-shared-slice-read-left t c =
     let s = c .before .before .before in
     let a = s .args in
     let p = s .pre .1 in
@@ -91,36 +79,48 @@ output-placement-mul-t16 t c =
     let z = pow-some (a .levels) in
     omega (arith, p .1)
 
-output-placement-add-t17 : (t : ℕ) → output-placement-lts.Need-add-t17 (
+output-placement-mul-t15 : (t : ℕ) → output-placement-lts.Need-mul-t15 (
   output-placement-below t,
   output-placement.Post,
 ) (output-placement-at t) output-placement.Post
-output-placement-add-t17 t c =
-    let s = c .before .before .before in
+output-placement-mul-t15 t c =
+    let s = c .before .before .before .before in
     let a = s .args in
     let p = s .pre .1 in
     let h = pow-room (a .levels) (p .1 .2) in
     let z = pow-some (a .levels) in
     omega (arith, p .1)
 
-output-placement-mul-t18 : (t : ℕ) → output-placement-lts.Need-mul-t18 (
+output-placement-add-t16 : (t : ℕ) → output-placement-lts.Need-add-t16 (
   output-placement-below t,
   output-placement.Post,
 ) (output-placement-at t) output-placement.Post
-output-placement-mul-t18 t c =
-    let s = c .before .before .before in
+output-placement-add-t16 t c =
+    let s = c .before .before .before .before in
     let a = s .args in
     let p = s .pre .1 in
     let h = pow-room (a .levels) (p .1 .2) in
     let z = pow-some (a .levels) in
     omega (arith, p .1)
 
-output-placement-element-copy-out-t21 : (t : ℕ) → output-placement-lts.Need-element-copy-out-t21 (
+output-placement-mul-t17 : (t : ℕ) → output-placement-lts.Need-mul-t17 (
   output-placement-below t,
   output-placement.Post,
 ) (output-placement-at t) output-placement.Post
-output-placement-element-copy-out-t21 t c =
-    let s = c .before .before .before in
+output-placement-mul-t17 t c =
+    let s = c .before .before .before .before in
+    let a = s .args in
+    let p = s .pre .1 in
+    let h = pow-room (a .levels) (p .1 .2) in
+    let z = pow-some (a .levels) in
+    omega (arith, p .1)
+
+output-placement-shared-slice-read-t19 : (t : ℕ) → output-placement-lts.Need-shared-slice-read-t19 (
+  output-placement-below t,
+  output-placement.Post,
+) (output-placement-at t) output-placement.Post
+output-placement-shared-slice-read-t19 t c =
+    let s = c .before .before .before .before .before in
     let a = s .args in
     let p = s .pre .1 in
     let h = pow-room (a .levels) (p .1 .2) in
@@ -132,7 +132,7 @@ output-placement-returns-2 : (t : ℕ) → output-placement-lts.Need-returns-2 (
   output-placement.Post,
 ) (output-placement-at t) output-placement.Post
 output-placement-returns-2 t c =
-    let s = c .before .before .before .before in
+    let s = c .before .before .before .before .before in
     let a = s .args in
     let p = s .pre .1 in
     let h = pow-room (a .levels) (p .1 .2) in
@@ -144,7 +144,7 @@ output-placement-sub-output-placement : (t : ℕ) → output-placement-lts.Need-
   output-placement.Post,
 ) (output-placement-at t) output-placement.Post
 output-placement-sub-output-placement t c =
-    let s = c .before .before .before in
+    let s = c .before .before .before .before in
     let a = s .args in
     let p = s .pre .1 in
     let h = pow-room (a .levels) (p .1 .2) in
@@ -157,45 +157,45 @@ output-placement-output-placement-requires :
       output-placement.Post,
     ) (output-placement-at t) output-placement.Post
 output-placement-output-placement-requires t c κs =
-    let s = c .before .before .before in
+    let s = c .before .before .before .before in
     let a = s .args in
     let p = s .pre .1 in
     let h = pow-room (a .levels) (p .1 .2) in
     let z = pow-some (a .levels) in
-    (omega (arith, c .before .before .if1 .left), (p .0, (p .0 (a .at) (p .1 .0) (c .if2 .left) .0, p .1 .1, omega (arith, p .1))))
+    (omega (arith, c .before .before .if1 .left), (p .0, (p .0 (a .at) (p .1 .0) (c .if2 .left) .0, p .1 .1, omega (arith, p .1), p .1 .3)))
 
-output-placement-mul-t23 : (t : ℕ) → output-placement-lts.Need-mul-t23 (
+output-placement-mul-t21 : (t : ℕ) → output-placement-lts.Need-mul-t21 (
   output-placement-below t,
   output-placement.Post,
 ) (output-placement-at t) output-placement.Post
-output-placement-mul-t23 t c =
-    let s = c .before .before .before .before .before .before in
-    let a = s .args in
-    let p = s .pre .1 in
-    let h = pow-room (a .levels) (p .1 .2) in
-    let z = pow-some (a .levels) in
-    let y = pow-step (a .levels) (omega (arith, c .before .before .before .before .before .if1 .left)) in
-    omega (arith, p .1, c .before .before .output-placement .ensures .1)
-
-output-placement-add-t24 : (t : ℕ) → output-placement-lts.Need-add-t24 (
-  output-placement-below t,
-  output-placement.Post,
-) (output-placement-at t) output-placement.Post
-output-placement-add-t24 t c =
-    let s = c .before .before .before .before .before .before in
-    let a = s .args in
-    let p = s .pre .1 in
-    let h = pow-room (a .levels) (p .1 .2) in
-    let z = pow-some (a .levels) in
-    let y = pow-step (a .levels) (omega (arith, c .before .before .before .before .before .if1 .left)) in
-    omega (arith, p .1, c .before .before .output-placement .ensures .1)
-
-output-placement-add-t25 : (t : ℕ) → output-placement-lts.Need-add-t25 (
-  output-placement-below t,
-  output-placement.Post,
-) (output-placement-at t) output-placement.Post
-output-placement-add-t25 t c =
+output-placement-mul-t21 t c =
     let s = c .before .before .before .before .before .before .before in
+    let a = s .args in
+    let p = s .pre .1 in
+    let h = pow-room (a .levels) (p .1 .2) in
+    let z = pow-some (a .levels) in
+    let y = pow-step (a .levels) (omega (arith, c .before .before .before .before .before .if1 .left)) in
+    omega (arith, p .1, c .before .before .output-placement .ensures .1)
+
+output-placement-add-t22 : (t : ℕ) → output-placement-lts.Need-add-t22 (
+  output-placement-below t,
+  output-placement.Post,
+) (output-placement-at t) output-placement.Post
+output-placement-add-t22 t c =
+    let s = c .before .before .before .before .before .before .before in
+    let a = s .args in
+    let p = s .pre .1 in
+    let h = pow-room (a .levels) (p .1 .2) in
+    let z = pow-some (a .levels) in
+    let y = pow-step (a .levels) (omega (arith, c .before .before .before .before .before .if1 .left)) in
+    omega (arith, p .1, c .before .before .output-placement .ensures .1)
+
+output-placement-add-t23 : (t : ℕ) → output-placement-lts.Need-add-t23 (
+  output-placement-below t,
+  output-placement.Post,
+) (output-placement-at t) output-placement.Post
+output-placement-add-t23 t c =
+    let s = c .before .before .before .before .before .before .before .before in
     let a = s .args in
     let p = s .pre .1 in
     let h = pow-room (a .levels) (p .1 .2) in
@@ -208,7 +208,7 @@ output-placement-returns-3 : (t : ℕ) → output-placement-lts.Need-returns-3 (
   output-placement.Post,
 ) (output-placement-at t) output-placement.Post
 output-placement-returns-3 t c =
-    let s = c .before .before .before .before .before .before .before in
+    let s = c .before .before .before .before .before .before .before .before in
     let a = s .args in
     let p = s .pre .1 in
     let h = pow-room (a .levels) (p .1 .2) in
@@ -224,7 +224,7 @@ output-placement-mul-right : (t : ℕ) → output-placement-lts.Need-mul-right (
   output-placement.Post,
 ) (output-placement-at t) output-placement.Post
 output-placement-mul-right t c =
-    let s = c .before .before .before .before .before in
+    let s = c .before .before .before .before .before .before in
     let a = s .args in
     let p = s .pre .1 in
     let h = pow-room (a .levels) (p .1 .2) in
@@ -236,7 +236,7 @@ output-placement-add-right : (t : ℕ) → output-placement-lts.Need-add-right (
   output-placement.Post,
 ) (output-placement-at t) output-placement.Post
 output-placement-add-right t c =
-    let s = c .before .before .before .before .before in
+    let s = c .before .before .before .before .before .before in
     let a = s .args in
     let p = s .pre .1 in
     let h = pow-room (a .levels) (p .1 .2) in
@@ -248,20 +248,20 @@ output-placement-mul-right-2 : (t : ℕ) → output-placement-lts.Need-mul-right
   output-placement.Post,
 ) (output-placement-at t) output-placement.Post
 output-placement-mul-right-2 t c =
-    let s = c .before .before .before .before .before in
+    let s = c .before .before .before .before .before .before in
     let a = s .args in
     let p = s .pre .1 in
     let h = pow-room (a .levels) (p .1 .2) in
     let z = pow-some (a .levels) in
     omega (arith, p .1)
 
-output-placement-element-copy-out-right :
-    (t : ℕ) → output-placement-lts.Need-element-copy-out-right (
+output-placement-shared-slice-read-right :
+    (t : ℕ) → output-placement-lts.Need-shared-slice-read-right (
       output-placement-below t,
       output-placement.Post,
     ) (output-placement-at t) output-placement.Post
-output-placement-element-copy-out-right t c =
-    let s = c .before .before .before .before .before in
+output-placement-shared-slice-read-right t c =
+    let s = c .before .before .before .before .before .before .before in
     let a = s .args in
     let p = s .pre .1 in
     let h = pow-room (a .levels) (p .1 .2) in
@@ -274,7 +274,7 @@ output-placement-sub-output-placement-2 :
       output-placement.Post,
     ) (output-placement-at t) output-placement.Post
 output-placement-sub-output-placement-2 t c =
-    let s = c .before .before .before .before .before .before in
+    let s = c .before .before .before .before .before .before .before in
     let a = s .args in
     let p = s .pre .1 in
     let h = pow-room (a .levels) (p .1 .2) in
@@ -287,19 +287,19 @@ output-placement-output-placement-requires-2 :
       output-placement.Post,
     ) (output-placement-at t) output-placement.Post
 output-placement-output-placement-requires-2 t c κs =
-    let s = c .before .before .before .before .before .before in
+    let s = c .before .before .before .before .before .before .before in
     let a = s .args in
     let p = s .pre .1 in
     let h = pow-room (a .levels) (p .1 .2) in
     let z = pow-some (a .levels) in
-    (omega (arith, c .before .before .before .before .before .if1 .left), (p .0, (p .0 (a .at) (p .1 .0) (c .before .before .before .if2 .left) .1, p .1 .1, omega (arith, p .1))))
+    (omega (arith, c .before .before .before .before .before .if1 .left), (p .0, (p .0 (a .at) (p .1 .0) (c .before .before .before .if2 .left) .1, p .1 .1, omega (arith, p .1), p .1 .3)))
 
-output-placement-mul-t29 : (t : ℕ) → output-placement-lts.Need-mul-t29 (
+output-placement-mul-t26 : (t : ℕ) → output-placement-lts.Need-mul-t26 (
   output-placement-below t,
   output-placement.Post,
 ) (output-placement-at t) output-placement.Post
-output-placement-mul-t29 t c =
-    let s = c .before .before .before .before .before .before .before .before .before in
+output-placement-mul-t26 t c =
+    let s = c .before .before .before .before .before .before .before .before .before .before in
     let a = s .args in
     let p = s .pre .1 in
     let h = pow-room (a .levels) (p .1 .2) in
@@ -307,12 +307,12 @@ output-placement-mul-t29 t c =
     let y = pow-step (a .levels) (omega (arith, c .before .before .before .before .before .before .before .before .if1 .left)) in
     omega (arith, p .1, c .before .before .output-placement2 .ensures .1)
 
-output-placement-add-t30 : (t : ℕ) → output-placement-lts.Need-add-t30 (
+output-placement-add-t27 : (t : ℕ) → output-placement-lts.Need-add-t27 (
   output-placement-below t,
   output-placement.Post,
 ) (output-placement-at t) output-placement.Post
-output-placement-add-t30 t c =
-    let s = c .before .before .before .before .before .before .before .before .before .before in
+output-placement-add-t27 t c =
+    let s = c .before .before .before .before .before .before .before .before .before .before .before in
     let a = s .args in
     let p = s .pre .1 in
     let h = pow-room (a .levels) (p .1 .2) in
@@ -325,7 +325,7 @@ output-placement-returns-4 : (t : ℕ) → output-placement-lts.Need-returns-4 (
   output-placement.Post,
 ) (output-placement-at t) output-placement.Post
 output-placement-returns-4 t c =
-    let s = c .before .before .before .before .before .before .before .before .before .before in
+    let s = c .before .before .before .before .before .before .before .before .before .before .before in
     let a = s .args in
     let p = s .pre .1 in
     let h = pow-room (a .levels) (p .1 .2) in
@@ -342,7 +342,7 @@ output-placement-returns-5 : (t : ℕ) → output-placement-lts.Need-returns-5 (
   output-placement.Post,
 ) (output-placement-at t) output-placement.Post
 output-placement-returns-5 t c =
-    let s = c .before .before .before .before .before .before .before .before in
+    let s = c .before .before .before .before .before .before .before .before .before in
     let a = s .args in
     let p = s .pre .1 in
     let h = pow-room (a .levels) (p .1 .2) in
@@ -364,25 +364,25 @@ pub +output-placement-spec : {M : Type 1} → statement M
     (output-placement-returns t)
     (output-placement-mul-left t)
     (output-placement-mul-left-2 t)
-    (output-placement-element-copy-out-left t)
-    (output-placement-mul-t16 t)
-    (output-placement-add-t17 t)
-    (output-placement-mul-t18 t)
-    (output-placement-element-copy-out-t21 t)
+    (output-placement-shared-slice-read-left t)
+    (output-placement-mul-t15 t)
+    (output-placement-add-t16 t)
+    (output-placement-mul-t17 t)
+    (output-placement-shared-slice-read-t19 t)
     (output-placement-returns-2 t)
     (output-placement-sub-output-placement t)
     (output-placement-output-placement-requires t)
-    (output-placement-mul-t23 t)
-    (output-placement-add-t24 t)
-    (output-placement-add-t25 t)
+    (output-placement-mul-t21 t)
+    (output-placement-add-t22 t)
+    (output-placement-add-t23 t)
     (output-placement-returns-3 t)
     (output-placement-mul-right t)
     (output-placement-add-right t)
     (output-placement-mul-right-2 t)
-    (output-placement-element-copy-out-right t)
+    (output-placement-shared-slice-read-right t)
     (output-placement-sub-output-placement-2 t)
     (output-placement-output-placement-requires-2 t)
-    (output-placement-mul-t29 t)
-    (output-placement-add-t30 t)
+    (output-placement-mul-t26 t)
+    (output-placement-add-t27 t)
     (output-placement-returns-4 t)
     (output-placement-returns-5 t)

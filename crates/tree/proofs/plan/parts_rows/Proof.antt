@@ -31,17 +31,17 @@ plan c = planIn (c .args .outline) (c .args .gates .now) (c .args .nodes .now)
 returns : tie.Need-returns
 unfolding gateRowsAnswer
 returns c =
-    let s = plan (c .before .before .before .before) in
+    let s = plan (c .before .before .before .before .before) in
     rw (ne-eqb (planFault s) 0 (λ z. c .before .if1 .taken (c .before .before .parts-fault .ensures ∙ z))) (c .no-gate-rows .ensures)
 
 -- the plan has no fault
-fine : (c : tie.Else1) → planFault (plan (c .before .before .before)) ≡ 0
+fine : (c : tie.Else1) → planFault (plan (c .before .before .before .before)) ≡ 0
 fine c = sym (c .before .parts-fault .ensures) ∙ c .if1 .left
 
 all-placements-requires : tie.Need-all-placements-requires
 all-placements-requires c κs =
-    let w = fault-none (plan (c .before .before .before .before .before)) (fine (c .before .before)) .nodes in
-    (w .linked, (w .some-nodes, w .few, omega arith, omega arith, omega arith))
+    let w = fault-none (plan (c .before .before .before .before .before .before)) (fine (c .before .before)) in
+    (w .nodes .linked, (w .nodes .some-nodes, w .nodes .few, omega arith, omega arith, omega arith, w .node-words))
 
 mode-requires : tie.Need-mode-requires
 mode-requires c κs = search needs
@@ -51,13 +51,13 @@ extra-of-requires c κs = search needs
 
 list-gates-requires : tie.Need-list-gates-requires
 list-gates-requires c κs =
-    let w = fault-none (plan (c .before .before .before .before .before .before .before .before .before .before)) (fine (c .before .before .before .before .before .before .before)) in
+    let w = fault-none (plan (c .before .before .before .before .before .before .before .before .before .before .before)) (fine (c .before .before .before .before .before .before .before)) in
     (w .words, w .few-gates, refl, refl)
 
 returns-2 : tie.Need-returns-2
 unfolding gateRowsAnswer
 returns-2 c =
-    let s = plan (c .before .before .before .before .before .before .before .before .before .before .before) in
+    let s = plan (c .before .before .before .before .before .before .before .before .before .before .before .before) in
     let n = s .«gate_count» in
     let f = fine (c .before .before .before .before .before .before .before .before) in
     let v = c .before .before .before .before .before .all-placements in

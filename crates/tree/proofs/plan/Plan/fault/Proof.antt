@@ -11,6 +11,9 @@ outline-requires c κs = search needs
 slice-aggregate-parts-fault : tie.Need-slice-aggregate-parts-fault
 slice-aggregate-parts-fault c = search needs
 
+slice-aggregate-parts-fault-2 : tie.Need-slice-aggregate-parts-fault-2
+slice-aggregate-parts-fault-2 c = search needs
+
 parts-fault-requires : tie.Need-parts-fault-requires
 parts-fault-requires c κs = search needs
 
@@ -20,4 +23,9 @@ returns c = c .parts-fault .ensures ∙ rw (c .before .before .before .outline .
 pub fault-spec : {M : Type 1} → statement M
 fault-spec =
     tie.close
-    (tie.spec outline-requires slice-aggregate-parts-fault parts-fault-requires returns)
+    (tie.spec
+    outline-requires
+    slice-aggregate-parts-fault
+    slice-aggregate-parts-fault-2
+    parts-fault-requires
+    returns)

@@ -22,12 +22,15 @@ returns-2 c =
     let a = c .before .before .before .before .args in
     sym (path-unlisted (a .self) (a .gate) (sym (c .before .before .before .fault .ensures) ∙ c .before .before .if1 .left) (omega (arith, c .if2 .taken)))
 
+slice-aggregate-output-placement : tie.Need-slice-aggregate-output-placement
+slice-aggregate-output-placement c = search needs
+
 output-placement-requires : tie.Need-output-placement-requires
 output-placement-requires c κs =
     let s = c .before .before .before .before .before .before .args .self in
     let f : planFault s ≡ 0 = sym (c .before .before .before .before .before .fault .ensures) ∙ c .before .before .before .before .if1 .left in
-    let w = fault-none s f .nodes in
-    (w .linked, (w .some-nodes, w .few, omega arith))
+    let w = fault-none s f in
+    (w .nodes .linked, (w .nodes .some-nodes, w .nodes .few, omega arith, w .node-words))
 
 returns-3 : tie.Need-returns-3
 returns-3 c =
@@ -36,4 +39,11 @@ returns-3 c =
 
 pub path-spec : {M : Type 1} → statement M
 path-spec =
-    tie.close (tie.spec fault-requires returns returns-2 output-placement-requires returns-3)
+    tie.close
+    (tie.spec
+    fault-requires
+    returns
+    returns-2
+    slice-aggregate-output-placement
+    output-placement-requires
+    returns-3)
