@@ -23,7 +23,6 @@ use crate::tables::MOST_TABLES;
 use crate::tables::tables_fault;
 use crate::tables::write_tables;
 use selector::Marks;
-use selector::Nodes;
 use tree::plan::Outline;
 use tree::plan::parts_fault;
 use tree::plan::parts_rows;
@@ -105,7 +104,7 @@ fn counts_fit(outline: Outline, counts: Counts) -> bool
 }
 
 // Whether this is no made-up state: a sound plan, open, and no count past its section.
-fn stands<'a>(outline: Outline, gates: &'a [u64], nodes: &'a Nodes, counts: Counts) -> bool
+fn stands<'a>(outline: Outline, gates: &'a [u64], nodes: &'a [u64], counts: Counts) -> bool
     ensures { λ r. ⌜ ((us : List ℕ) → r ≡ stands (settingOf (planIn outline (now (gates .entry)) (now (nodes .entry)))) (stateIn counts us)) ⌝ }
 {
     if parts_fault(outline, gates, nodes) != 0 {
@@ -121,7 +120,7 @@ fn stands<'a>(outline: Outline, gates: &'a [u64], nodes: &'a Nodes, counts: Coun
 pub fn take_rows<'a>(
     outline: Outline,
     gates: &'a [u64],
-    nodes: &'a Nodes,
+    nodes: &'a [u64],
     mut counts: Counts,
     used: Marks,
     piece: &'a [u64],
@@ -173,7 +172,7 @@ pub fn take_rows<'a>(
 pub fn take_s_words<'a>(
     outline: Outline,
     gates: &'a [u64],
-    nodes: &'a Nodes,
+    nodes: &'a [u64],
     mut counts: Counts,
     piece: &'a [u64],
     constants: &mut [u64],
@@ -202,7 +201,7 @@ pub fn take_s_words<'a>(
 pub fn take_cells<'a>(
     outline: Outline,
     gates: &'a [u64],
-    nodes: &'a Nodes,
+    nodes: &'a [u64],
     mut counts: Counts,
     piece: &'a [u64],
     copies: &mut [u64],
@@ -235,7 +234,7 @@ pub fn take_cells<'a>(
 pub fn take_tables<'a>(
     outline: Outline,
     gates: &'a [u64],
-    nodes: &'a Nodes,
+    nodes: &'a [u64],
     mut counts: Counts,
     piece: &'a [u64],
     tables: &mut [u64],
@@ -299,7 +298,7 @@ pub(crate) fn complete(outline: Outline, counts: Counts) -> bool
 pub fn take_finish<'a>(
     outline: Outline,
     gates: &'a [u64],
-    nodes: &'a Nodes,
+    nodes: &'a [u64],
     mut counts: Counts,
     used: Marks,
     copies: &mut [u64],

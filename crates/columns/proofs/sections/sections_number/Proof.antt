@@ -29,12 +29,12 @@ parts-rows-requires : tie.Need-parts-rows-requires
 parts-rows-requires c κs = search needs
 
 -- the gates' answer is the plan's
-answer-is : (c : tie.After-parts-rows) → c .parts-rows .result ≡ gateRowsAnswer (c .before .before .before .before .before .before .before .before .before .before .before .before .before .before .args .t1)
-answer-is c = c .parts-rows .ensures ∙ rw (c .before .before .before .before .before .outline .ensures)
+answer-is : (c : tie.After-parts-rows) → c .parts-rows .result ≡ gateRowsAnswer (c .before .before .before .before .before .before .before .before .before .before .before .before .before .before .before .args .t1)
+answer-is c = c .parts-rows .ensures ∙ rw (c .before .before .before .before .before .before .outline .ensures)
 
 returns : tie.Need-returns
 returns c =
-    let a = c .before .before .before .before .before .before .before .before .before .before .before .before .before .before .before .before .args in
+    let a = c .before .before .before .before .before .before .before .before .before .before .before .before .before .before .before .before .before .args in
     let x = settingOf (a .t1) in
     let b = storeOf (a .constants .now) (a .copies .now) (a .scratch .now) (a .tables .now) in
     let g = c .before .before .parts-rows in
@@ -42,43 +42,43 @@ returns c =
     sym o ∙ number-open x b (a .rows .now) (a .s-words .now) (a .cells .now) (a .table-words .now) (λ z. omega (arith, o, z))
 
 -- the plan has no fault, so that its gates are as answered
-no-fault : (c : tie.Else1) → planFault (c .before .before .before .before .before .before .before .before .before .before .before .before .before .before .before .before .args .t1) ≡ 0
+no-fault : (c : tie.Else1) → planFault (c .before .before .before .before .before .before .before .before .before .before .before .before .before .before .before .before .before .args .t1) ≡ 0
 no-fault c =
     let g = c .before .before .parts-rows in
-    gates-number (c .before .before .before .before .before .before .before .before .before .before .before .before .before .before .before .before .args .t1) (g .result) (answer-is (c .before .before)) .0 (c .if1 .left)
+    gates-number (c .before .before .before .before .before .before .before .before .before .before .before .before .before .before .before .before .before .args .t1) (g .result) (answer-is (c .before .before)) .0 (c .if1 .left)
 
-gates : (c : tie.Else1) → GatesOf (c .before .before .before .before .before .before .before .before .before .before .before .before .before .before .before .before .args .t1) (c .before .before .parts-rows .result)
-gates c = gates-of (c .before .before .before .before .before .before .before .before .before .before .before .before .before .before .before .before .args .t1) (c .before .before .parts-rows .result) (no-fault c) (answer-is (c .before .before))
+gates : (c : tie.Else1) → GatesOf (c .before .before .before .before .before .before .before .before .before .before .before .before .before .before .before .before .before .args .t1) (c .before .before .parts-rows .result)
+gates c = gates-of (c .before .before .before .before .before .before .before .before .before .before .before .before .before .before .before .before .before .args .t1) (c .before .before .parts-rows .result) (no-fault c) (answer-is (c .before .before))
 
 open-number-requires : tie.Need-open-number-requires
 open-number-requires c κs = no-fault c
 
 returns-2 : tie.Need-returns-2
 returns-2 c =
-    let a = c .before .before .before .before .before .before .before .before .before .before .before .before .before .before .before .before .before .before .args in
+    let a = c .before .before .before .before .before .before .before .before .before .before .before .before .before .before .before .before .before .before .before .args in
     let x = settingOf (a .t1) in
     let b = storeOf (a .constants .now) (a .copies .now) (a .scratch .now) (a .tables .now) in
     let e = c .before .open-number .ensures in
     e ∙ number-open x b (a .rows .now) (a .s-words .now) (a .cells .now) (a .table-words .now) (λ z. c .if2 .taken (e ∙ z))
 
 -- opening is accepted
-opened : (c : tie.Else2) → let a = c .before .before .before .before .before .before .before .before .before .before .before .before .before .before .before .before .before .before .args in openNumber (settingOf (a .t1)) (storeOf (a .constants .now) (a .copies .now) (a .scratch .now) (a .tables .now)) ≡ 0
+opened : (c : tie.Else2) → let a = c .before .before .before .before .before .before .before .before .before .before .before .before .before .before .before .before .before .before .before .args in openNumber (settingOf (a .t1)) (storeOf (a .constants .now) (a .copies .now) (a .scratch .now) (a .tables .now)) ≡ 0
 opened c = sym (c .before .open-number .ensures) ∙ c .if2 .left
 
 test-rows-requires : tie.Need-test-rows-requires
 test-rows-requires c κs =
-    let w = sound (c .before .before .before .before .before .before .before .before .before .before .before .before .before .before .before .before .before .before .before .before .before .args .t1) (no-fault (c .before .before .before .before .before)) in
+    let w = sound (c .before .before .before .before .before .before .before .before .before .before .before .before .before .before .before .before .before .before .before .before .before .before .args .t1) (no-fault (c .before .before .before .before .before)) in
     (omega (arith, w .few-gates, gates (c .before .before .before .before .before) .alike .many-same), omega arith, w .ranges .long)
 
 -- the rows' number: the gates' constants are the plan's
-in-rows : (c : tie.After-test-rows) → let a = c .before .before .before .before .before .before .before .before .before .before .before .before .before .before .before .before .before .before .before .before .before .before .args in c .test-rows .result .number ≡ rowsFault (gatesOf (settingOf (a .t1))) (a .t1 .trace) 0 (rowsOf (a .rows .now))
+in-rows : (c : tie.After-test-rows) → let a = c .before .before .before .before .before .before .before .before .before .before .before .before .before .before .before .before .before .before .before .before .before .before .before .args in c .test-rows .result .number ≡ rowsFault (gatesOf (settingOf (a .t1))) (a .t1 .trace) 0 (rowsOf (a .rows .now))
 in-rows c =
-    let a = c .before .before .before .before .before .before .before .before .before .before .before .before .before .before .before .before .before .before .before .before .before .before .args in
+    let a = c .before .before .before .before .before .before .before .before .before .before .before .before .before .before .before .before .before .before .before .before .before .before .before .args in
     c .test-rows .ensures .0 ∙ gates-fault (a .t1) (c .before .before .before .before .before .before .before .before .parts-rows .result) (gates (c .before .before .before .before .before .before)) (a .t1 .trace) 0 (rowsOf (a .rows .now))
 
 returns-3 : tie.Need-returns-3
 returns-3 c =
-    let a = c .before .before .before .before .before .before .before .before .before .before .before .before .before .before .before .before .before .before .before .before .before .before .before .before .args in
+    let a = c .before .before .before .before .before .before .before .before .before .before .before .before .before .before .before .before .before .before .before .before .before .before .before .before .before .args in
     let x = settingOf (a .t1) in
     let b = storeOf (a .constants .now) (a .copies .now) (a .scratch .now) (a .tables .now) in
     let f = rowsFault (gatesOf x) (x .trace) 0 (rowsOf (a .rows .now)) in
@@ -88,7 +88,7 @@ returns-3 c =
     e ∙ sym first ∙ number-pieces x b (a .rows .now) (a .s-words .now) (a .cells .now) (a .table-words .now) (opened (c .before .before .before .before .before .before)) (labels-long (a .t1)) (λ z. d (sym first ∙ z))
 
 -- rows without a fault: the first fault of all is that of the later sections
-later : (c : tie.Else3) → let a = c .before .before .before .before .before .before .before .before .before .before .before .before .before .before .before .before .before .before .before .before .before .before .before .before .args in let x = settingOf (a .t1) in
+later : (c : tie.Else3) → let a = c .before .before .before .before .before .before .before .before .before .before .before .before .before .before .before .before .before .before .before .before .before .before .before .before .before .args in let x = settingOf (a .t1) in
     piecesFault x (a .rows .now) (a .s-words .now) (a .cells .now) (a .table-words .now) ≡ laterFault x (a .s-words .now) (a .cells .now) (a .table-words .now)
 later c = first-none _ _ (sym (in-rows (c .before .before)) ∙ c .if3 .left)
 
@@ -97,7 +97,7 @@ later-fault-requires c κs = no-fault (c .before .before .before .before .before
 
 returns-4 : tie.Need-returns-4
 returns-4 c =
-    let a = c .before .before .before .before .before .before .before .before .before .before .before .before .before .before .before .before .before .before .before .before .before .before .before .before .before .before .args in
+    let a = c .before .before .before .before .before .before .before .before .before .before .before .before .before .before .before .before .before .before .before .before .before .before .before .before .before .before .before .args in
     let x = settingOf (a .t1) in
     let b = storeOf (a .constants .now) (a .copies .now) (a .scratch .now) (a .tables .now) in
     let e = c .before .later-fault .ensures ∙ sym (later (c .before .before)) in
@@ -105,12 +105,12 @@ returns-4 c =
 
 last-tests-requires : tie.Need-last-tests-requires
 last-tests-requires c κs =
-    let q = c .before .before .before .before .before .before .before .before .before .before .before .before .before .before .before .before .before .before .before .before .before .before .before .before .before .before .args .t1 in
-    rw (c .before .before .before .before .before .before .before .before .before .before .before .before .before .before .before .before .before .outline .ensures) (small (outlineOf q) (q .gates) (q .nodes) (no-fault (c .before .before .before .before .before .before .before .before .before .before)), sound q (no-fault (c .before .before .before .before .before .before .before .before .before .before)) .few-gates)
+    let q = c .before .before .before .before .before .before .before .before .before .before .before .before .before .before .before .before .before .before .before .before .before .before .before .before .before .before .before .args .t1 in
+    rw (c .before .before .before .before .before .before .before .before .before .before .before .before .before .before .before .before .before .before .outline .ensures) (small (outlineOf q) (q .gates) (q .nodes) (no-fault (c .before .before .before .before .before .before .before .before .before .before)), sound q (no-fault (c .before .before .before .before .before .before .before .before .before .before)) .few-gates)
 
 returns-5 : tie.Need-returns-5
 returns-5 c =
-    let a = c .before .before .before .before .before .before .before .before .before .before .before .before .before .before .before .before .before .before .before .before .before .before .before .before .before .before .before .args in
+    let a = c .before .before .before .before .before .before .before .before .before .before .before .before .before .before .before .before .before .before .before .before .before .before .before .before .before .before .before .before .args in
     let x = settingOf (a .t1) in
     let b = storeOf (a .constants .now) (a .copies .now) (a .scratch .now) (a .tables .now) in
     let t = c .before .before .before .before .before .test-rows in
@@ -126,7 +126,7 @@ returns-5 c =
       phase = 1;
     } in
     c .last-tests .ensures (a .t1 .gates) (a .t1 .nodes)
-    ∙ rw (c .before .before .before .before .before .before .before .before .before .before .before .before .before .before .before .before .before .before .outline .ensures) refl
+    ∙ rw (c .before .before .before .before .before .before .before .before .before .before .before .before .before .before .before .before .before .before .before .outline .ensures) refl
     ∙ last-same x (a .rows .now) (a .s-words .now) (a .cells .now) (a .table-words .now) s (m .0) refl refl (m .1)
     ∙ number-last x b (a .rows .now) (a .s-words .now) (a .cells .now) (a .table-words .now) (opened (c .before .before .before .before .before .before .before .before .before)) (labels-long (a .t1)) (later (c .before .before .before) ∙ sym (c .before .before .later-fault .ensures) ∙ c .before .if4 .left)
 

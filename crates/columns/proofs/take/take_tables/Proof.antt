@@ -36,28 +36,29 @@ stands-requires : tie.Need-stands-requires
 stands-requires c κs = search needs
 
 -- the state stands, so its plan is sound and its counts are within
-upright : (c : tie.Then1) → stands (settingOf (held (c .before .before .before .before .before) .plan)) (stateOf (held (c .before .before .before .before .before))) ≡ true
+upright : (c : tie.Then1) → stands (settingOf (held (c .before .before .before .before .before .before) .plan)) (stateOf (held (c .before .before .before .before .before .before))) ≡ true
 upright c = sym (c .before .stands .ensures []) ∙ c .if1 .taken
 
-no-fault : (c : tie.Then1) → planFault (held (c .before .before .before .before .before) .plan) ≡ 0
-no-fault c = plan-fine (held (c .before .before .before .before .before)) (upright c)
+no-fault : (c : tie.Then1) → planFault (held (c .before .before .before .before .before .before) .plan) ≡ 0
+no-fault c = plan-fine (held (c .before .before .before .before .before .before)) (upright c)
 
-fine : (c : tie.Then1) → Sound (held (c .before .before .before .before .before) .plan)
-fine c = sound (held (c .before .before .before .before .before) .plan) (no-fault c)
+fine : (c : tie.Then1) → Sound (held (c .before .before .before .before .before .before) .plan)
+fine c = sound (held (c .before .before .before .before .before .before) .plan) (no-fault c)
 
-counts : (c : tie.Then1) → Counted (settingOf (held (c .before .before .before .before .before) .plan)) (stateOf (held (c .before .before .before .before .before)))
-counts c = stood (settingOf (held (c .before .before .before .before .before) .plan)) (stateOf (held (c .before .before .before .before .before))) (upright c) .counts
+counts : (c : tie.Then1) → Counted (settingOf (held (c .before .before .before .before .before .before) .plan)) (stateOf (held (c .before .before .before .before .before .before)))
+counts c = stood (settingOf (held (c .before .before .before .before .before .before) .plan)) (stateOf (held (c .before .before .before .before .before .before))) (upright c) .counts
+
 
 rooms-of-requires : tie.Need-rooms-of-requires
-rooms-of-requires c κs = let a = c .before .before .before .before .before .args in small (a .outline) (a .gates .now) (a .nodes .now) (no-fault c)
+rooms-of-requires c κs = let a = c .before .before .before .before .before .before .args in small (a .outline) (a .gates .now) (a .nodes .now) (no-fault c)
 
 give-requires : tie.Need-give-requires
 give-requires c κs = search needs
 
 returns : tie.Need-returns
 returns c =
-    let s = held (c .before .before .before .before .before .before .before .before .before) in
-    let a = c .before .before .before .before .before .before .before .before .before .args in
+    let s = held (c .before .before .before .before .before .before .before .before .before .before) in
+    let a = c .before .before .before .before .before .before .before .before .before .before .args in
     let r = c .before .before .before .rooms-of .ensures (a .gates .now) (a .nodes .now) in
     let k = tables-refused s (a .piece .now) (a .tables .now) 10 (tables-10 s (a .piece .now) (a .tables .now) (upright (c .before .before .before .before)) (omega (arith, c .before .if2 .taken, r .tables-are))) (λ z. omega arith) in
     (c .give .ensures ∙ ap givenOf (k .0), k .1)
@@ -75,27 +76,27 @@ tables-fault-requires c κs =
     (omega (arith, w .width, c .before .lookup-width .ensures), t .tables-in, t .stack-in, w .ranges .long)
 
 -- the piece's number is its first faulty record's
-fault-is : (c : tie.After-tables-fault) → let a = c .before .before .before .before .before .before .before .before .before .before .before .args in
-    c .tables-fault .result ≡ tablesFault (ltb 0 (modeOf (a .outline .lookup))) (widthOf (a .outline .lookup)) (a .outline .trace) (stackOf (stateOf (held (c .before .before .before .before .before .before .before .before .before .before .before)))) (tablesOf (a .piece .now))
+fault-is : (c : tie.After-tables-fault) → let a = c .before .before .before .before .before .before .before .before .before .before .before .before .args in
+    c .tables-fault .result ≡ tablesFault (ltb 0 (modeOf (a .outline .lookup))) (widthOf (a .outline .lookup)) (a .outline .trace) (stackOf (stateOf (held (c .before .before .before .before .before .before .before .before .before .before .before .before)))) (tablesOf (a .piece .now))
 fault-is c = c .tables-fault .ensures ∙ rw (c .before .mode .ensures, c .before .before .lookup-width .ensures)
 
-own : (c : tie.After-tables-fault) → let s = held (c .before .before .before .before .before .before .before .before .before .before .before) in let a = c .before .before .before .before .before .before .before .before .before .before .before .args in tablesNumber (settingOf (s .plan)) (stateOf s) (a .piece .now) (a .tables .now) ≡ c .tables-fault .result
+own : (c : tie.After-tables-fault) → let s = held (c .before .before .before .before .before .before .before .before .before .before .before .before) in let a = c .before .before .before .before .before .before .before .before .before .before .before .before .args in tablesNumber (settingOf (s .plan)) (stateOf s) (a .piece .now) (a .tables .now) ≡ c .tables-fault .result
 own c =
-    let a = c .before .before .before .before .before .before .before .before .before .before .before .args in
+    let a = c .before .before .before .before .before .before .before .before .before .before .before .before .args in
     let r = c .before .before .before .before .before .rooms-of .ensures (a .gates .now) (a .nodes .now) in
-    tables-own (held (c .before .before .before .before .before .before .before .before .before .before .before)) (a .piece .now) (a .tables .now) (upright (c .before .before .before .before .before .before)) (omega (arith, c .before .before .before .if2 .left, r .tables-are)) ∙ sym (fault-is c)
+    tables-own (held (c .before .before .before .before .before .before .before .before .before .before .before .before)) (a .piece .now) (a .tables .now) (upright (c .before .before .before .before .before .before)) (omega (arith, c .before .before .before .if2 .left, r .tables-are)) ∙ sym (fault-is c)
 
 give-requires-2 : tie.Need-give-requires-2
 give-requires-2 c κs = search needs
 
 returns-2 : tie.Need-returns-2
 returns-2 c =
-    let a = c .before .before .before .before .before .before .before .before .before .before .before .before .before .args in
-    let k = tables-refused (held (c .before .before .before .before .before .before .before .before .before .before .before .before .before)) (a .piece .now) (a .tables .now) _ (own (c .before .before)) (c .before .if3 .taken) in
+    let a = c .before .before .before .before .before .before .before .before .before .before .before .before .before .before .args in
+    let k = tables-refused (held (c .before .before .before .before .before .before .before .before .before .before .before .before .before .before)) (a .piece .now) (a .tables .now) _ (own (c .before .before)) (c .before .if3 .taken) in
     (c .give2 .ensures ∙ ap givenOf (k .0), k .1)
 
 -- in a lookup mode the buffer has W + 1 columns, and the piece has no fault
-looked : (c : tie.Then4) → ltb 0 (modeOf (c .before .before .before .before .before .before .before .before .before .before .before .before .before .args .outline .lookup)) ≡ true
+looked : (c : tie.Then4) → ltb 0 (modeOf (c .before .before .before .before .before .before .before .before .before .before .before .before .before .before .args .outline .lookup)) ≡ true
 looked c = rw (c .before .before .before .mode .ensures) at (c .if4 .taken)
 
 wide : (t : Bool) (n len : ℕ) → t ≡ true → pick t n 0 ≤ len → n ≤ len
@@ -103,8 +104,8 @@ wide t n len e h = rw e at h
 
 write-tables-requires : tie.Need-write-tables-requires
 write-tables-requires c κs =
-    let s = held (c .before .before .before .before .before .before .before .before .before .before .before .before .before .before) in
-    let a = c .before .before .before .before .before .before .before .before .before .before .before .before .before .before .args in
+    let s = held (c .before .before .before .before .before .before .before .before .before .before .before .before .before .before .before) in
+    let a = c .before .before .before .before .before .before .before .before .before .before .before .before .before .before .before .args in
     let q = a .outline in
     let w = fine (c .before .before .before .before .before .before .before .before .before) in
     let t = counts (c .before .before .before .before .before .before .before .before .before) in
@@ -123,8 +124,8 @@ same-length c = search needs
 returns-3 : tie.Need-returns-3
 unfolding tablesWritten
 returns-3 c =
-    let a = c .before .before .before .before .before .before .before .before .before .before .before .before .before .before .before .before .before .before .args in
-    let k = tables-taken (held (c .before .before .before .before .before .before .before .before .before .before .before .before .before .before .before .before .before .before)) (a .piece .now) (a .tables .now) (own (c .before .before .before .before .before .before .before) ∙ c .before .before .before .before .before .before .if3 .left) in
+    let a = c .before .before .before .before .before .before .before .before .before .before .before .before .before .before .before .before .before .before .before .args in
+    let k = tables-taken (held (c .before .before .before .before .before .before .before .before .before .before .before .before .before .before .before .before .before .before .before)) (a .piece .now) (a .tables .now) (own (c .before .before .before .before .before .before .before) ∙ c .before .before .before .before .before .before .if3 .left) in
     let w = c .before .before .before .write-tables .ensures in
     let e = c .before .before .before .before .before .before .before .before .before .lookup-width .ensures in
     (c .give3 .ensures ∙ rw (w .0 .0, w .0 .1) (ap givenOf (k .0)), (rw e at (w .1)) ∙ k .1)
@@ -145,9 +146,9 @@ give-requires-4 c κs = search needs
 
 returns-4 : tie.Need-returns-4
 returns-4 c =
-    let s = held (c .before .before .before .before .before .before .before .before .before .before .before .before .before .before) in
-    let ws = c .before .before .before .before .before .before .before .before .before .before .before .before .before .before .args .piece .now in
-    let b = c .before .before .before .before .before .before .before .before .before .before .before .before .before .before .args .tables .now in
+    let s = held (c .before .before .before .before .before .before .before .before .before .before .before .before .before .before .before) in
+    let ws = c .before .before .before .before .before .before .before .before .before .before .before .before .before .before .before .args .piece .now in
+    let b = c .before .before .before .before .before .before .before .before .before .before .before .before .before .before .before .args .tables .now in
     let m = modeOf (s .plan .lookup) in
     let k = tables-taken s ws b (own (c .before .before .before) ∙ c .before .before .if3 .left) in
     let off : ltb 0 m ≡ false = rw (c .before .before .before .before .mode .ensures) at (c .before .if4 .left) in
@@ -160,8 +161,8 @@ give-requires-5 c κs = search needs
 
 returns-5 : tie.Need-returns-5
 returns-5 c =
-    let s = held (c .before .before .before .before .before .before) in
-    let a = c .before .before .before .before .before .before .args in
+    let s = held (c .before .before .before .before .before .before .before) in
+    let a = c .before .before .before .before .before .before .before .args in
     let k = tables-refused s (a .piece .now) (a .tables .now) 19 (tables-19 s (a .piece .now) (a .tables .now) (sym (c .before .before .stands .ensures []) ∙ c .before .if1 .left)) (λ z. omega arith) in
     (c .give5 .ensures ∙ ap givenOf (k .0), k .1)
 

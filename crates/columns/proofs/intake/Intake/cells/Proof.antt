@@ -31,12 +31,12 @@ same-length-2 c = search needs
 
 returns : tie.Need-returns
 returns c =
-    let s = c .before .before .before .before .before .before .before .before .before .before .before .before .before .before .before .before .before .before .args .self in
-    let a = c .before .before .before .before .before .before .before .before .before .before .before .before .before .before .before .before .before .before .args in
+    let s = c .before .before .before .before .before .before .before .before .before .before .before .before .before .before .before .before .before .before .before .args .self in
+    let a = c .before .before .before .before .before .before .before .before .before .before .before .before .before .before .before .before .before .before .before .args in
     let b = cols (a .copies .now) (a .scratch .now) in
     let w = cells-whole s (a .piece .now) b in
-    let e : c .before .before .before .before .before .take-cells .result ≡ givenOf (cellsAnswer (bare s) (a .piece .now) b) = c .before .before .before .before .before .take-cells .ensures .0 ∙ rw (c .before .before .before .before .before .before .before .before .before .before .before .before .before .outline .ensures, c .before .before .before .before .before .before .before .before .counts .ensures) in
-    (c .after .ensures ∙ ap (λ (g : Given). counted s g) e ∙ w .0, c .before .before .before .before .before .take-cells .ensures .1 ∙ rw (c .before .before .before .before .before .before .before .before .before .before .before .before .before .outline .ensures, c .before .before .before .before .before .before .before .before .counts .ensures) (w .1))
+    let e : c .before .before .before .before .before .take-cells .result ≡ givenOf (cellsAnswer (bare s) (a .piece .now) b) = c .before .before .before .before .before .take-cells .ensures .0 ∙ rw (c .before .before .before .before .before .before .before .before .before .before .before .before .before .before .outline .ensures, c .before .before .before .before .before .before .before .before .counts .ensures) in
+    (c .after .ensures ∙ ap (λ (g : Given). counted s g) e ∙ w .0, c .before .before .before .before .before .take-cells .ensures .1 ∙ rw (c .before .before .before .before .before .before .before .before .before .before .before .before .before .before .outline .ensures, c .before .before .before .before .before .before .before .before .counts .ensures) (w .1))
 
 pub cells-spec : {M : Type 1} → statement M
 cells-spec = tie.close (tie.spec outline-requires counts-requires take-cells-requires after-requires same-length same-length-2 returns)

@@ -23,11 +23,11 @@ same-length c = search needs
 
 returns : tie.Need-returns
 returns c =
-    let s = c .before .before .before .before .before .before .before .before .before .before .before .before .before .before .before .before .args .self in
-    let ws = c .before .before .before .before .before .before .before .before .before .before .before .before .before .before .before .before .args .piece .now in
-    let b = c .before .before .before .before .before .before .before .before .before .before .before .before .before .before .before .before .args .constants .now in
-    let e : c .before .before .before .before .take-rows .result ≡ markedOf (rowsAnswer s ws b) = c .before .before .before .before .take-rows .ensures .0 ∙ rw (c .before .before .before .before .before .before .before .before .before .before .before .before .outline .ensures, c .before .before .before .before .before .before .counts .ensures) in
-    (ap (λ (g : Marked). remarked s g) e ∙ rows-whole s ws b, c .before .before .before .before .take-rows .ensures .1 ∙ rw (c .before .before .before .before .before .before .before .before .before .before .before .before .outline .ensures, c .before .before .before .before .before .before .counts .ensures))
+    let s = c .before .before .before .before .before .before .before .before .before .before .before .before .before .before .before .before .before .args .self in
+    let ws = c .before .before .before .before .before .before .before .before .before .before .before .before .before .before .before .before .before .args .piece .now in
+    let b = c .before .before .before .before .before .before .before .before .before .before .before .before .before .before .before .before .before .args .constants .now in
+    let e : c .before .before .before .before .take-rows .result ≡ markedOf (rowsAnswer s ws b) = c .before .before .before .before .take-rows .ensures .0 ∙ rw (c .before .before .before .before .before .before .before .before .before .before .before .before .before .outline .ensures, c .before .before .before .before .before .before .counts .ensures) in
+    (ap (λ (g : Marked). remarked s g) e ∙ rows-whole s ws b, c .before .before .before .before .take-rows .ensures .1 ∙ rw (c .before .before .before .before .before .before .before .before .before .before .before .before .before .outline .ensures, c .before .before .before .before .before .before .counts .ensures))
 
 pub rows-spec : {M : Type 1} → statement M
 rows-spec = tie.close (tie.spec outline-requires counts-requires take-rows-requires same-length returns)

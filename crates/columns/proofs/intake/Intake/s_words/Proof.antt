@@ -27,12 +27,12 @@ same-length c = search needs
 
 returns : tie.Need-returns
 returns c =
-    let s = c .before .before .before .before .before .before .before .before .before .before .before .before .before .before .args .self in
-    let a = c .before .before .before .before .before .before .before .before .before .before .before .before .before .before .args in
+    let s = c .before .before .before .before .before .before .before .before .before .before .before .before .before .before .before .args .self in
+    let a = c .before .before .before .before .before .before .before .before .before .before .before .before .before .before .before .args in
     let b = a .constants .now in
     let w = words-whole s (a .piece .now) b in
-    let e : c .before .before .before .take-s-words .result ≡ givenOf (sWordsAnswer (bare s) (a .piece .now) b) = c .before .before .before .take-s-words .ensures .0 ∙ rw (c .before .before .before .before .before .before .before .before .before .before .outline .ensures, c .before .before .before .before .before .counts .ensures) in
-    (c .after .ensures ∙ ap (λ (g : Given). counted s g) e ∙ w .0, c .before .before .before .take-s-words .ensures .1 ∙ rw (c .before .before .before .before .before .before .before .before .before .before .outline .ensures, c .before .before .before .before .before .counts .ensures) (w .1))
+    let e : c .before .before .before .take-s-words .result ≡ givenOf (sWordsAnswer (bare s) (a .piece .now) b) = c .before .before .before .take-s-words .ensures .0 ∙ rw (c .before .before .before .before .before .before .before .before .before .before .before .outline .ensures, c .before .before .before .before .before .counts .ensures) in
+    (c .after .ensures ∙ ap (λ (g : Given). counted s g) e ∙ w .0, c .before .before .before .take-s-words .ensures .1 ∙ rw (c .before .before .before .before .before .before .before .before .before .before .before .outline .ensures, c .before .before .before .before .before .counts .ensures) (w .1))
 
 pub s-words-spec : {M : Type 1} → statement M
 s-words-spec = tie.close (tie.spec outline-requires counts-requires take-s-words-requires after-requires same-length returns)

@@ -27,12 +27,12 @@ same-length c = search needs
 
 returns : tie.Need-returns
 returns c =
-    let s = c .before .before .before .before .before .before .before .before .before .before .before .before .before .before .args .self in
-    let a = c .before .before .before .before .before .before .before .before .before .before .before .before .before .before .args in
+    let s = c .before .before .before .before .before .before .before .before .before .before .before .before .before .before .before .args .self in
+    let a = c .before .before .before .before .before .before .before .before .before .before .before .before .before .before .before .args in
     let b = a .tables .now in
     let w = tables-whole s (a .piece .now) b in
-    let e : c .before .before .before .take-tables .result ≡ givenOf (tablesAnswer (bare s) (a .piece .now) b) = c .before .before .before .take-tables .ensures .0 ∙ rw (c .before .before .before .before .before .before .before .before .before .before .outline .ensures, c .before .before .before .before .before .counts .ensures) in
-    (c .after .ensures ∙ ap (λ (g : Given). counted s g) e ∙ w .0, c .before .before .before .take-tables .ensures .1 ∙ rw (c .before .before .before .before .before .before .before .before .before .before .outline .ensures, c .before .before .before .before .before .counts .ensures) (w .1))
+    let e : c .before .before .before .take-tables .result ≡ givenOf (tablesAnswer (bare s) (a .piece .now) b) = c .before .before .before .take-tables .ensures .0 ∙ rw (c .before .before .before .before .before .before .before .before .before .before .before .outline .ensures, c .before .before .before .before .before .counts .ensures) in
+    (c .after .ensures ∙ ap (λ (g : Given). counted s g) e ∙ w .0, c .before .before .before .take-tables .ensures .1 ∙ rw (c .before .before .before .before .before .before .before .before .before .before .before .outline .ensures, c .before .before .before .before .before .counts .ensures) (w .1))
 
 pub tables-spec : {M : Type 1} → statement M
 tables-spec = tie.close (tie.spec outline-requires counts-requires take-tables-requires after-requires same-length returns)
