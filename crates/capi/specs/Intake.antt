@@ -1,17 +1,20 @@
 -- What opening and the calls after it leave in the state's words, and what opening answers. A later call's number and columns are those of `columns` for the
 -- state that its words encode.
 --
--- Main definitions: `openCall`, `openedState`, `openedStore`, `stateAfter`, `progressAfter`.
+-- Main definitions: `openCall`, `openedState`, `openedStore`, `stateAfter`, `progressAfter`, `markedAfter`, `countedAfter`.
 use Prim.Native.Nat.{ℕ}
 use lib.Dec.{eqb, leb}
 use lib.ListN.{length}
 use mathlib.Core.List.{List}
 use Rattle.base.specs.Pick.{pick}
+use Rattle.columns.specs.Given.{markedOf, markedWith}
 use Rattle.columns.specs.Intake.{openAnswer, openLeft}
 use Rattle.columns.specs.declared.intake.Taken.{Taken}
+use Rattle.columns.specs.declared.take.Given.{Given}
+use Rattle.columns.specs.declared.take.Marked.{Marked}
 use Rattle.pieces.specs.Setting.{Store}
 use Rattle.tree.specs.Plan.{planFault}
-use Rattle.encoding.specs.Encoding.{handed, intakeWords, planOf, progressOf, progressed, stateLength}
+use Rattle.encoding.specs.Encoding.{handed, intakeWords, marksAt, planOf, progressIn, progressed, stateLength}
 
 -- "Open: 19; 10; 9 candidates reach p." The state's slice is tested just before the columns.
 unfoldable pub openCall : List ℕ → List ℕ → Store → ℕ
@@ -31,5 +34,12 @@ unfoldable pub stateAfter : Taken → List ℕ → List ℕ
 stateAfter t old = pick (eqb (t .number) 0) (handed (intakeWords (t .state)) old) old
 
 -- the same with the words of the plan as they were: no call after opening changes the plan
-unfoldable pub progressAfter : Taken → List ℕ → List ℕ
-progressAfter t old = pick (eqb (t .number) 0) (progressed (progressOf (t .state)) old) old
+unfoldable pub markedAfter : Marked → List ℕ → List ℕ
+markedAfter m old = pick (eqb (m .number) 0) (progressed (progressIn (m .counts) (m .used)) old) old
+
+abbrev pub progressAfter : Taken → List ℕ → List ℕ
+progressAfter t old = markedAfter (markedOf t) old
+
+-- and with the marks as they were
+abbrev pub countedAfter : Given → List ℕ → List ℕ
+countedAfter g old = markedAfter (markedWith (g .number) (g .counts) (marksAt old)) old

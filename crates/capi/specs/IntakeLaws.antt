@@ -46,11 +46,11 @@ PlanThere t old = t .number ≡ 0 → Long (t .state) × (handed (planWords (t .
 
 -- all but the plan's words are written, or nothing
 pub progress-given : (t : Taken) (old : List ℕ) → t .number ≡ 0 → progressed (progressOf (t .state)) old ≡ progressAfter t old
-unfolding progressAfter
+unfolding markedAfter
 progress-given t old e = sym (pick-yes (eqb (t .number) 0) (progressed (progressOf (t .state)) old) old (eq-eqb (t .number) 0 e))
 
 pub progress-kept : (t : Taken) (old : List ℕ) → t .number ≢ 0 → old ≡ progressAfter t old
-unfolding progressAfter
+unfolding markedAfter
 progress-kept t old d = sym (pick-no (eqb (t .number) 0) (progressed (progressOf (t .state)) old) old (ne-eqb (t .number) 0 d))
 
 pub state-kept : (t : Taken) (old : List ℕ) → t .number ≢ 0 → old ≡ stateAfter t old
@@ -65,17 +65,13 @@ progress-state t old h = by (ℕ-discrete (t .number) 0)
     by (yes e) = sym (progress-given t old e) ∙ state-progressed (t .state) old (h e .0 .plan .gates) (h e .0 .plan .nodes) (h e .0 .used) (h e .1) ∙ state-given t old e
     by (no d) = sym (progress-kept t old d) ∙ state-kept t old d
 
--- a call through the state's words is the call of the state that they encode
-pub passed : (answer : Intake → Taken) (ws : List ℕ) (s : Intake) (t : Taken) (r : ℕ) (w : List ℕ)
-    → s ≡ intakeOf ws
-    → t ≡ answer s
+-- an accepted call through the state's words is the call of the state that they encode
+pub passed : (ws : List ℕ) (t : Taken) (r : ℕ) (w : List ℕ)
     → r ≡ t .number
     → w ≡ progressAfter t ws
     → PlanThere t ws
-    → (r ≡ answer (intakeOf ws) .number) × (w ≡ stateAfter (answer (intakeOf ws)) ws)
-passed answer ws s t r w es et er ew p =
-    let e : t ≡ answer (intakeOf ws) = et ∙ ap answer es in
-    (er ∙ ap (λ (x : Taken). x .number) e, ew ∙ progress-state t ws p ∙ ap (λ (x : Taken). stateAfter x ws) e)
+    → (r ≡ t .number) × (w ≡ stateAfter t ws)
+passed ws t r w er ew p = (er, ew ∙ progress-state t ws p)
 
 -- ---- an accepted call finds the words of its plan in the state's
 answered-number : (n : ℕ) (s : Intake) (x : State) → answered n s x .number ≡ n

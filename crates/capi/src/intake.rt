@@ -4,35 +4,49 @@ ghost use mathlib.Core.Path.{_≡_};
 ghost use Rattle.pieces.specs.Setting.{cols};
 ghost use Rattle.columns.specs.Intake.{storeOf, rowsAnswer, rowsLeft, sWordsAnswer, sWordsLeft, cellsAnswer, cellsLeft, tablesAnswer, tablesLeft, finishAnswer, finishLeft};
 ghost use Rattle.encoding.specs.Encoding.{intakeOf};
-ghost use Rattle.capi.specs.Intake.{openCall, openedState, openedStore, progressAfter, stateAfter};
+ghost use Rattle.capi.specs.Intake.{openCall, openedState, openedStore, countedAfter, markedAfter, stateAfter};
 use columns::intake::Intake;
-use columns::intake::Taken;
+use columns::take::Given;
+use columns::take::Marked;
+use columns::take::take_cells;
+use columns::take::take_finish;
+use columns::take::take_rows;
+use columns::take::take_s_words;
+use columns::take::take_tables;
+use encoding::encoding::COUNT_AT;
+use encoding::encoding::GATES_FROM;
+use encoding::encoding::NODES_FROM;
 use encoding::encoding::STATE_WORDS;
+use encoding::encoding::TAIL_FROM;
 use encoding::encoding::decode_plan;
-use encoding::encoding::decode_state;
+use encoding::encoding::encode_counts;
 use encoding::encoding::encode_progress;
 use encoding::encoding::encode_state;
+use encoding::held::held_at;
+use encoding::held::marks_of;
 
-// The number of a call. Where it is accepted the state's words are written, all but those of the
-// plan: they are there, since no call after opening changes the plan.
-pub(crate) fn give_back(taken: Taken, state: &mut [u64]) -> u64
-    ensures { λ r. ⌜ r ≡ taken .number ⌝ }
-    ensures { λ _. ⌜ now (state .exit) ≡ progressAfter taken (now (state .entry)) ⌝ }
+// The number of a call. Where it is accepted the state's counts and phase are written. The words of the
+// plan are there, since no call after opening changes the plan, and the marks stay.
+fn give_back(given: Given, state: &mut [u64]) -> u64
+    ensures { λ r. ⌜ r ≡ given .number ⌝ }
+    ensures { λ _. ⌜ now (state .exit) ≡ countedAfter given (now (state .entry)) ⌝ }
 {
-    if taken.number == 0 {
-        let used = taken.state.used;
-        encode_progress(
-            taken.state.rows,
-            taken.state.s_words,
-            taken.state.cells,
-            taken.state.tables,
-            taken.state.table_rows,
-            used,
-            taken.state.phase,
-            state,
-        );
+    if given.number == 0 {
+        encode_counts(given.counts, state);
     }
-    taken.number
+    given.number
+}
+
+// The same with the marks.
+pub(crate) fn give_marked_back(marked: Marked, state: &mut [u64]) -> u64
+    ensures { λ r. ⌜ r ≡ marked .number ⌝ }
+    ensures { λ _. ⌜ now (state .exit) ≡ markedAfter marked (now (state .entry)) ⌝ }
+{
+    if marked.number == 0 {
+        let used = marked.used;
+        encode_progress(marked.counts, used, state);
+    }
+    marked.number
 }
 
 // Opens the columns of a plan. 19, then 10 for the state, then 10 for the columns, then 9; the state
@@ -70,8 +84,21 @@ pub extern "C" fn kinchoyu_rows(state: &mut [u64], piece: &[u64], constants: &mu
     ensures { λ _. ⌜ now (state .exit) ≡ stateAfter (rowsAnswer (intakeOf (now (state .entry))) (now (piece .entry)) (now (constants .entry))) (now (state .entry)) ⌝ }
     ensures { λ _. ⌜ now (constants .exit) ≡ rowsLeft (intakeOf (now (state .entry))) (now (piece .entry)) (now (constants .entry)) ⌝ }
 {
-    let taken = decode_state(state).rows(piece, constants);
-    give_back(taken, state)
+    let held = held_at(state);
+    if held.fits {
+        let used = marks_of(state);
+        let given = take_rows(
+            held.outline,
+            &state[GATES_FROM..COUNT_AT],
+            &state[NODES_FROM..TAIL_FROM],
+            held.counts,
+            used,
+            piece,
+            constants,
+        );
+        return give_marked_back(given, state);
+    }
+    19
 }
 
 // Words of the specialised constant columns, column by column. 19, 10, 13, 11.
@@ -81,8 +108,19 @@ pub extern "C" fn kinchoyu_s_words(state: &mut [u64], piece: &[u64], constants: 
     ensures { λ _. ⌜ now (state .exit) ≡ stateAfter (sWordsAnswer (intakeOf (now (state .entry))) (now (piece .entry)) (now (constants .entry))) (now (state .entry)) ⌝ }
     ensures { λ _. ⌜ now (constants .exit) ≡ sWordsLeft (intakeOf (now (state .entry))) (now (piece .entry)) (now (constants .entry)) ⌝ }
 {
-    let taken = decode_state(state).s_words(piece, constants);
-    give_back(taken, state)
+    let held = held_at(state);
+    if held.fits {
+        let given = take_s_words(
+            held.outline,
+            &state[GATES_FROM..COUNT_AT],
+            &state[NODES_FROM..TAIL_FROM],
+            held.counts,
+            piece,
+            constants,
+        );
+        return give_back(given, state);
+    }
+    19
 }
 
 // Cell words of the copy columns, column by column. 19, 10, 13, 14.
@@ -97,8 +135,20 @@ pub extern "C" fn kinchoyu_cells(
     ensures { λ _. ⌜ now (state .exit) ≡ stateAfter (cellsAnswer (intakeOf (now (state .entry))) (now (piece .entry)) (cols (now (copies .entry)) (now (scratch .entry)))) (now (state .entry)) ⌝ }
     ensures { λ _. ⌜ cols (now (copies .exit)) (now (scratch .exit)) ≡ cellsLeft (intakeOf (now (state .entry))) (now (piece .entry)) (cols (now (copies .entry)) (now (scratch .entry))) ⌝ }
 {
-    let taken = decode_state(state).cells(piece, copies, scratch);
-    give_back(taken, state)
+    let held = held_at(state);
+    if held.fits {
+        let given = take_cells(
+            held.outline,
+            &state[GATES_FROM..COUNT_AT],
+            &state[NODES_FROM..TAIL_FROM],
+            held.counts,
+            piece,
+            copies,
+            scratch,
+        );
+        return give_back(given, state);
+    }
+    19
 }
 
 // Table records: width, rows, contents row by row. 19, 10, 15, 11.
@@ -108,8 +158,19 @@ pub extern "C" fn kinchoyu_tables(state: &mut [u64], piece: &[u64], tables: &mut
     ensures { λ _. ⌜ now (state .exit) ≡ stateAfter (tablesAnswer (intakeOf (now (state .entry))) (now (piece .entry)) (now (tables .entry))) (now (state .entry)) ⌝ }
     ensures { λ _. ⌜ now (tables .exit) ≡ tablesLeft (intakeOf (now (state .entry))) (now (piece .entry)) (now (tables .entry)) ⌝ }
 {
-    let taken = decode_state(state).tables(piece, tables);
-    give_back(taken, state)
+    let held = held_at(state);
+    if held.fits {
+        let given = take_tables(
+            held.outline,
+            &state[GATES_FROM..COUNT_AT],
+            &state[NODES_FROM..TAIL_FROM],
+            held.counts,
+            piece,
+            tables,
+        );
+        return give_back(given, state);
+    }
+    19
 }
 
 // Finishing; scratch is read alone. 19, 10, 16, 17, 18.
@@ -119,6 +180,19 @@ pub extern "C" fn kinchoyu_finish(state: &mut [u64], copies: &mut [u64], scratch
     ensures { λ _. ⌜ now (state .exit) ≡ stateAfter (finishAnswer (intakeOf (now (state .entry))) (cols (now (copies .entry)) (now (scratch .entry)))) (now (state .entry)) ⌝ }
     ensures { λ _. ⌜ now (copies .exit) ≡ finishLeft (intakeOf (now (state .entry))) (cols (now (copies .entry)) (now (scratch .entry))) ⌝ }
 {
-    let taken = decode_state(state).finish(copies, scratch);
-    give_back(taken, state)
+    let held = held_at(state);
+    if held.fits {
+        let used = marks_of(state);
+        let given = take_finish(
+            held.outline,
+            &state[GATES_FROM..COUNT_AT],
+            &state[NODES_FROM..TAIL_FROM],
+            held.counts,
+            used,
+            copies,
+            scratch,
+        );
+        return give_back(given, state);
+    }
+    19
 }

@@ -8,8 +8,10 @@ use mathlib.Core.Bool.{Bool, true}
 use mathlib.Core.List.{List, [], _++_, _∷_}
 use Rattle.base.specs.Limits.{mostGates}
 use Rattle.base.specs.Pick.{both, pick}
+use Rattle.columns.specs.Given.{countsOf}
 use Rattle.columns.specs.Intake.{zeroIntake}
 use Rattle.columns.specs.declared.intake.Intake.{Intake}
+use Rattle.columns.specs.declared.take.Counts.{Counts}
 use Rattle.parameters.specs.Lookup.{flagOf, modeOf, shareOf, widthOf}
 use Rattle.parameters.specs.Parameters.{lookupOf, parameterWords, parametersAt}
 use Rattle.selector.specs.Gates.{gateSlots}
@@ -111,8 +113,15 @@ planOf ws = pick (eqb (length ws) planLength) (pick (lookupThere ws) (planAt ws)
 abbrev pub progressWords : ℕ → ℕ → ℕ → ℕ → ℕ → List ℕ → ℕ → List ℕ
 progressWords rows words cells tables stacked used phase = (rows ∷ words ∷ cells ∷ tables ∷ stacked ∷ []) ++ (used ++ (phase ∷ []))
 
+abbrev pub progressIn : Counts → List ℕ → List ℕ
+progressIn k us = progressWords (k .rows) (k .«s_words») (k .cells) (k .tables) (k .«table_rows») us (k .phase)
+
 abbrev pub progressOf : Intake → List ℕ
-progressOf s = progressWords (s .rows) (s .«s_words») (s .cells) (s .tables) (s .«table_rows») (s .used) (s .phase)
+progressOf s = progressIn (countsOf s) (s .used)
+
+-- the marks among a state's words
+abbrev pub marksAt : List ℕ → List ℕ
+marksAt ws = take mostGates (drop usedFrom ws)
 
 -- a state as words, in the order of its fields
 abbrev pub intakeWords : Intake → List ℕ
@@ -131,7 +140,7 @@ intakeAt ws =
       cells = getD ws (countsFrom + 2) 0;
       tables = getD ws (countsFrom + 3) 0;
       «table_rows» = getD ws (countsFrom + 4) 0;
-      used = take mostGates (drop usedFrom ws);
+      used = marksAt ws;
       phase = getD ws phaseAt 0;
     }
 

@@ -29,7 +29,7 @@ use Rattle.tree.specs.Plan.{parametersOf, planFault, zeroPlan}
 use Rattle.tree.specs.PlanLaws.{zero-fault}
 use Rattle.tree.specs.declared.plan.Plan.{Plan}
 use Rattle.columns.specs.Intake.{zeroIntake}
-use Rattle.encoding.specs.Encoding.{countAt, countsFrom, countsLength, gatesFrom, handed, headWords, intakeAt, intakeOf, intakeWords, lookupFits, lookupThere, nodesFrom, phaseAt, planAt, planLength, planOf, planWords, progressLength, progressOf, progressWords, progressed, stateLength, tailFrom, tailLength, tailWords, usedFrom}
+use Rattle.encoding.specs.Encoding.{countAt, countsFrom, countsLength, gatesFrom, handed, headWords, intakeAt, intakeOf, intakeWords, lookupFits, lookupThere, marksAt, nodesFrom, phaseAt, planAt, planLength, planOf, planWords, progressLength, progressOf, progressWords, progressed, stateLength, tailFrom, tailLength, tailWords, usedFrom}
 
 -- ---- the lookup mode
 fits-each : (l : LookupParameters) → lookupFits (modeOf l) (widthOf l) (flagOf (shareOf l)) ≡ true
@@ -260,6 +260,16 @@ module _ (rows words cells tables stacked phase : ℕ) (used old : List ℕ) (u 
       ∙ append-assoc (take planLength old) new (drop stateLength old)
       ∙ sym (pick-yes (leb stateLength (length old)) (take planLength old ++ (new ++ drop stateLength old)) old (le-leb stateLength (length old) h))
 
+  -- where the marks are those that stand there, writing them is writing nothing
+  pub counts-written : used ≡ marksAt old → (a : List ℕ) → a ≡ paste old countsFrom five countsLength → set a phaseAt phase ≡ progressed (progressWords rows words cells tables stacked used phase) old
+  counts-written eu a ea =
+      let fa : a ≡ to-counts ++ drop usedFrom old = ea ∙ paste-next (take planLength old) five old old countsFrom countsLength (length-take-le planLength old (omega arith)) refl (sym (take-append-drop planLength old)) in
+      let rest : used ++ drop phaseAt old ≡ drop usedFrom old =
+      ap (λ (l : List ℕ). l ++ drop phaseAt old) eu ∙ ap (λ (l : List ℕ). marksAt old ++ l) (sym (drop-drop mostGates usedFrom old)) ∙ take-append-drop mostGates (drop usedFrom old) in
+      let stay : paste a usedFrom used (length used) ≡ a =
+      paste-next to-counts used old a usedFrom mostGates long-counts u fa ∙ append-assoc to-counts used (drop phaseAt old) ∙ ap (λ (l : List ℕ). to-counts ++ l) rest ∙ sym fa in
+      ap (λ (l : List ℕ). set l phaseAt phase) (sym stay) ∙ progress-written a (paste a usedFrom used (length used)) ea refl
+
 -- and a state, the plan first
 module _ (s : Intake) (old : List ℕ) (g : length (s .plan .gates) ≡ gateSlots) (n : length (s .plan .nodes) ≡ nodeSlots) (u : length (s .used) ≡ mostGates) where
   pub state-written : stateLength ≤ length old → (a : List ℕ) → a ≡ handed (planWords (s .plan)) old → progressed (progressOf s) a ≡ handed (intakeWords s) old
@@ -317,7 +327,7 @@ unfolding intakeOf
 state-read ws e = sym (pick-yes (eqb (length ws) stateLength) (intakeAt ws) zeroIntake (eq-eqb (length ws) stateLength e))
 
 -- a part of the words in an array of zeros that is as long
-part-read : (ws : List ℕ) (at n : ℕ) → at + n ≤ length ws → paste (replicate n 0) 0 (take n (drop at ws)) (length (take n (drop at ws))) ≡ take n (drop at ws)
+pub part-read : (ws : List ℕ) (at n : ℕ) → at + n ≤ length ws → paste (replicate n 0) 0 (take n (drop at ws)) (length (take n (drop at ws))) ≡ take n (drop at ws)
 part-read ws at n h =
     let e = length-take-le n (drop at ws) (omega (arith, length-drop at ws)) in
     paste-all (take n (drop at ws)) (replicate n 0) (e ∙ sym (length-replicate n 0))
@@ -347,25 +357,6 @@ plan-made ws e f p l gs ns ep el eg en =
       factor = getD ws (tailFrom + 3) 0;
     })
     ∙ plan-read ws e f
-
--- and the state
-pub state-made : (ws : List ℕ) → length ws ≡ stateLength
-    → (q : Plan) (us : List ℕ)
-    → q ≡ planOf (take planLength ws)
-    → us ≡ paste (replicate mostGates 0) 0 (take mostGates (drop usedFrom ws)) (length (take mostGates (drop usedFrom ws)))
-    → _≡_ {A = Intake} (record { plan = q; rows = getD ws countsFrom 0; «s_words» = getD ws (countsFrom + 1) 0; cells = getD ws (countsFrom + 2) 0; tables = getD ws (countsFrom + 3) 0; «table_rows» = getD ws (countsFrom + 4) 0; used = us; phase = getD ws phaseAt 0 }) (intakeOf ws)
-state-made ws e q us eq eu =
-    (λ i. record {
-      plan = eq i;
-      rows = getD ws countsFrom 0;
-      «s_words» = getD ws (countsFrom + 1) 0;
-      cells = getD ws (countsFrom + 2) 0;
-      tables = getD ws (countsFrom + 3) 0;
-      «table_rows» = getD ws (countsFrom + 4) 0;
-      used = (eu ∙ part-read ws usedFrom mostGates (omega arith)) i;
-      phase = getD ws phaseAt 0;
-    })
-    ∙ state-read ws e
 
 -- ---- words that are decoded and encoded again
 -- the lookup mode of three words that fit answers for them

@@ -1,4 +1,5 @@
 -- Plans and states as words.
 pub mod Encoding
 pub mod EncodingLaws
+pub mod Held
 mod Examples

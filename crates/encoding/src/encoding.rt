@@ -4,9 +4,9 @@ ghost use Prim.Native.Nat.{_+_, _≤_};
 ghost use lib.ListN.{length};
 ghost use lib.Seq.{paste};
 ghost use Rattle.parameters.specs.Lookup.{flagOf};
-ghost use Rattle.encoding.specs.Encoding.{handed, intakeOf, intakeWords, lookupFits, planOf, planWords, progressWords, progressed};
+ghost use Rattle.encoding.specs.Encoding.{handed, intakeWords, lookupFits, marksAt, planOf, planWords, progressIn, progressed};
 use columns::intake::Intake;
-use columns::intake::NEVER;
+use columns::take::Counts;
 use parameters::parameters::PARAMETER_WORDS;
 use parameters::parameters::parameters_at;
 use selector::GATE_SLOTS;
@@ -16,13 +16,13 @@ use selector::NODE_SLOTS;
 use tree::plan::Plan;
 
 // Where the parts of a plan's words stand: parameters and lookup mode first, then gates, their count, nodes, the rest.
-const GATES_FROM: usize = PARAMETER_WORDS;
+pub const GATES_FROM: usize = PARAMETER_WORDS;
 
-const COUNT_AT: usize = GATES_FROM + GATE_SLOTS;
+pub const COUNT_AT: usize = GATES_FROM + GATE_SLOTS;
 
-const NODES_FROM: usize = COUNT_AT + 1;
+pub const NODES_FROM: usize = COUNT_AT + 1;
 
-const TAIL_FROM: usize = NODES_FROM + NODE_SLOTS;
+pub const TAIL_FROM: usize = NODES_FROM + NODE_SLOTS;
 
 // The number of nodes, D, K and F.
 const TAIL_LENGTH: usize = 4;
@@ -30,19 +30,19 @@ const TAIL_LENGTH: usize = 4;
 pub const PLAN_WORDS: usize = TAIL_FROM + TAIL_LENGTH;
 
 // Where the parts of a state's words stand: the plan first, then the counts, the marks, the phase.
-const COUNTS_FROM: usize = PLAN_WORDS;
+pub const COUNTS_FROM: usize = PLAN_WORDS;
 
 // Rows, S words, cells, tables and table rows.
 const COUNTS_LENGTH: usize = 5;
 
-const USED_FROM: usize = COUNTS_FROM + COUNTS_LENGTH;
+pub const USED_FROM: usize = COUNTS_FROM + COUNTS_LENGTH;
 
-const PHASE_AT: usize = USED_FROM + MOST_GATES;
+pub const PHASE_AT: usize = USED_FROM + MOST_GATES;
 
 pub const STATE_WORDS: usize = PHASE_AT + 1;
 
 // The words of a slice go into another, from `at` on.
-fn copy_words(from: &[u64], at: usize, to: &mut [u64])
+pub(crate) fn copy_words(from: &[u64], at: usize, to: &mut [u64])
     requires { ⌜ at + length (now from) ≤ length (now to) ⌝ }
     ensures { λ _. ⌜ now (to .exit) ≡ paste (now (to .entry)) at (now (from .entry)) (length (now (from .entry))) ⌝ }
 {
@@ -63,7 +63,7 @@ pub fn hand(words: &[u64], out: &mut [u64])
 }
 
 // Whether some lookup mode has this number, width and flag.
-fn lookup_fits(mode: u64, width: u64, flag: u64) -> bool
+pub(crate) fn lookup_fits(mode: u64, width: u64, flag: u64) -> bool
     ensures { λ r. ⌜ r ≡ lookupFits mode width flag ⌝ }
 {
     if 4 < mode {
@@ -151,55 +151,39 @@ pub fn encode_plan(plan: Plan, words: &mut [u64])
     copy_words(&tail, TAIL_FROM, words);
 }
 
-// The state that the words encode; of another number of words a state of zeros.
-pub fn decode_state(words: &[u64]) -> Intake
-    ensures { λ r. ⌜ r ≡ intakeOf (now (words .entry)) ⌝ }
+// What a call changes of a state goes behind the words of its plan, which stay; a slice that is too
+// short keeps all its words.
+pub fn encode_progress(counts: Counts, used: Marks, words: &mut [u64])
+    ensures { λ _. ⌜ now (words .exit) ≡ progressed (progressIn counts used) (now (words .entry)) ⌝ }
 {
-    let mut used = [0; MOST_GATES];
-    if words.len() != STATE_WORDS {
-        return Intake {
-            plan: Plan::zero(),
-            rows: 0,
-            s_words: 0,
-            cells: 0,
-            tables: 0,
-            table_rows: 0,
-            used: used,
-            phase: NEVER,
-        };
-    }
-    copy_words(&words[USED_FROM..PHASE_AT], 0, &mut used);
-    Intake {
-        plan: decode_plan(&words[..PLAN_WORDS]),
-        rows: words[COUNTS_FROM],
-        s_words: words[COUNTS_FROM + 1],
-        cells: words[COUNTS_FROM + 2],
-        tables: words[COUNTS_FROM + 3],
-        table_rows: words[COUNTS_FROM + 4],
-        used: used,
-        phase: words[PHASE_AT],
+    if STATE_WORDS <= words.len() {
+        let five = [
+            counts.rows,
+            counts.s_words,
+            counts.cells,
+            counts.tables,
+            counts.table_rows,
+        ];
+        copy_words(&five, COUNTS_FROM, words);
+        copy_words(&used, USED_FROM, words);
+        words[PHASE_AT] = counts.phase;
     }
 }
 
-// What a call changes of a state goes behind the words of its plan, which stay; a slice that is too
-// short keeps all its words.
-pub fn encode_progress(
-    rows: u64,
-    s_words: u64,
-    cells: u64,
-    tables: u64,
-    table_rows: u64,
-    used: Marks,
-    phase: u64,
-    words: &mut [u64],
-)
-    ensures { λ _. ⌜ now (words .exit) ≡ progressed (progressWords rows «s_words» cells tables «table_rows» used phase) (now (words .entry)) ⌝ }
+// The same where the marks stay too.
+pub fn encode_counts(counts: Counts, words: &mut [u64])
+    ensures { λ _. ⌜ now (words .exit) ≡ progressed (progressIn counts (marksAt (now (words .entry)))) (now (words .entry)) ⌝ }
 {
     if STATE_WORDS <= words.len() {
-        let counts = [rows, s_words, cells, tables, table_rows];
-        copy_words(&counts, COUNTS_FROM, words);
-        copy_words(&used, USED_FROM, words);
-        words[PHASE_AT] = phase;
+        let five = [
+            counts.rows,
+            counts.s_words,
+            counts.cells,
+            counts.tables,
+            counts.table_rows,
+        ];
+        copy_words(&five, COUNTS_FROM, words);
+        words[PHASE_AT] = counts.phase;
     }
 }
 
@@ -212,14 +196,13 @@ pub fn encode_state(state: Intake, words: &mut [u64])
     }
     encode_plan(state.plan, words);
     let used = state.used;
-    encode_progress(
-        state.rows,
-        state.s_words,
-        state.cells,
-        state.tables,
-        state.table_rows,
-        used,
-        state.phase,
-        words,
-    );
+    let counts = Counts {
+        rows: state.rows,
+        s_words: state.s_words,
+        cells: state.cells,
+        tables: state.tables,
+        table_rows: state.table_rows,
+        phase: state.phase,
+    };
+    encode_progress(counts, used, words);
 }

@@ -1,2 +1,3 @@
 // Plans and states as words, for callers that hold them in buffers.
 pub mod encoding;
+pub mod held;

@@ -56,4 +56,3 @@ returns-2 c =
 
 pub open-number-spec : {M : Type 1} → statement M
 open-number-spec = tie.close (tie.spec outline-requires room-number-requires returns representatives-requires returns-2)
-

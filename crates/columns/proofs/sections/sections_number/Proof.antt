@@ -145,4 +145,3 @@ sections-number-spec =
     returns-4
     last-tests-requires
     returns-5)
-

@@ -48,7 +48,6 @@ fine c = sound (held (c .before .before .before .before .before .before) .plan) 
 counts : (c : tie.Then1) → Counted (settingOf (held (c .before .before .before .before .before .before) .plan)) (stateOf (held (c .before .before .before .before .before .before)))
 counts c = stood (settingOf (held (c .before .before .before .before .before .before) .plan)) (stateOf (held (c .before .before .before .before .before .before))) (upright c) .counts
 
-
 rooms-of-requires : tie.Need-rooms-of-requires
 rooms-of-requires c κs = let a = c .before .before .before .before .before .before .args in small (a .outline) (a .gates .now) (a .nodes .now) (no-fault c)
 

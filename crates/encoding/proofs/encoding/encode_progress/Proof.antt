@@ -4,13 +4,13 @@ use borrow.Author.Needs.{needs}
 use lib.ListN.{length, length-set}
 use mathlib.Core.Path.{_∙_, _≡_, sym}
 use Rattle.base.specs.Limits.{mostGates}
-use Rattle.encoding.specs.Encoding.{phaseAt, progressWords}
+use Rattle.encoding.specs.Encoding.{phaseAt, progressIn}
 use Rattle.encoding.specs.EncodingLaws.{progress-written, progressed-short}
 use Rattle.encoding.proofs.encoding.encode_progress.Statement.{statement}
 use Rattle.encoding.proofs.encoding.encode_progress.Tie as tie
 
 -- an array by value has its length
-used-long : (c : tie.Start) → length (c .args .t6) ≡ mostGates
+used-long : (c : tie.Start) → length (c .args .t2) ≡ mostGates
 used-long c = search needs
 
 slice-aggregate-copy-words : tie.Need-slice-aggregate-copy-words
@@ -30,19 +30,19 @@ slice-write-words c = search needs
 
 same-length : tie.Need-same-length
 same-length c =
-    length-set (c .before .before .copy-words2 .last .1 .1 .0) phaseAt (c .before .before .before .before .before .before .before .before .before .before .before .before .args .phase) ∙ c .before .before .copy-words2 .kept .1 .1 .0 ∙ c .before .before .before .before .before .before .before .copy-words .kept .1 .1 .0
+    length-set (c .before .before .copy-words2 .last .1 .1 .0) phaseAt (c .before .before .before .before .before .before .before .before .before .before .before .before .args .counts .phase) ∙ c .before .before .copy-words2 .kept .1 .1 .0 ∙ c .before .before .before .before .before .before .before .copy-words .kept .1 .1 .0
 
 returns : tie.Need-returns
 returns c =
-    let s = c .before .before .before .before .before .before .before .before .before .before .before .before in
-    let a = s .args in
-    progress-written (a .rows) (a .s-words) (a .cells) (a .tables) (a .table-rows) (a .phase) (a .t6) (a .words .now) (used-long s) (c .before .before .before .before .before .before .before .before .before .before .if1 .taken)
+    let a = c .before .before .before .before .before .before .before .before .before .before .before .before .args in
+    let k = a .counts in
+    progress-written (k .rows) (k .«s_words») (k .cells) (k .tables) (k .«table_rows») (k .phase) (a .t2) (a .words .now) (used-long (c .before .before .before .before .before .before .before .before .before .before .before .before)) (c .before .before .before .before .before .before .before .before .before .before .if1 .taken)
     _ _ (c .before .before .before .before .before .before .before .copy-words .ensures) (c .before .before .copy-words2 .ensures)
 
 returns-2 : tie.Need-returns-2
 returns-2 c =
     let a = c .before .before .args in
-    sym (progressed-short (progressWords (a .rows) (a .s-words) (a .cells) (a .tables) (a .table-rows) (a .t6) (a .phase)) (a .words .now) (c .if1 .left))
+    sym (progressed-short (progressIn (a .counts) (a .t2)) (a .words .now) (c .if1 .left))
 
 pub encode-progress-spec : {M : Type 1} → statement M
 encode-progress-spec =

@@ -234,4 +234,3 @@ open-spec =
     same-length-11
     same-length-12
     returns-4)
-

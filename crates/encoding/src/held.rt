@@ -1,0 +1,111 @@
+// A state's words read where they stand: its numbers by value. The words of gates and nodes stay in place, for the calls on
+// a state in parts to be lent.
+ghost use mathlib.Core.Path.{_≡_};
+ghost use lib.ListN.{length};
+ghost use Rattle.encoding.specs.Encoding.{stateLength};
+ghost use Rattle.encoding.specs.Held.{countsAt, heldAt, marksRead, noState};
+use crate::encoding::COUNT_AT;
+use crate::encoding::COUNTS_FROM;
+use crate::encoding::PHASE_AT;
+use crate::encoding::STATE_WORDS;
+use crate::encoding::TAIL_FROM;
+use crate::encoding::USED_FROM;
+use crate::encoding::copy_words;
+use crate::encoding::lookup_fits;
+use columns::take::Counts;
+use columns::take::NEVER;
+use parameters::parameters::parameters_at;
+use selector::MOST_GATES;
+use selector::Marks;
+use tree::plan::Outline;
+use tree::plan::Plan;
+use tree::plan::Told;
+
+// Whether the words are as many as a state's, with some lookup mode's words among them, and then the outline of
+// its plan, else zeros; its counts.
+pub struct Held {
+    pub fits: bool,
+    pub outline: Outline,
+    pub counts: Counts,
+}
+
+// Words that hold no state.
+fn no_state(counts: Counts) -> Held
+    ensures { λ r. ⌜ r ≡ noState counts ⌝ }
+{
+    Held {
+        fits: false,
+        outline: Plan::zero().outline(),
+        counts: counts,
+    }
+}
+
+// The counts of a state's words.
+fn counts_at(words: &[u64]) -> Counts
+    requires { ⌜ length (now words) ≡ stateLength ⌝ }
+    ensures { λ r. ⌜ r ≡ countsAt (now (words .entry)) ⌝ }
+{
+    Counts {
+        rows: words[COUNTS_FROM],
+        s_words: words[COUNTS_FROM + 1],
+        cells: words[COUNTS_FROM + 2],
+        tables: words[COUNTS_FROM + 3],
+        table_rows: words[COUNTS_FROM + 4],
+        phase: words[PHASE_AT],
+    }
+}
+
+// What the words hold.
+pub fn held_at(words: &[u64]) -> Held
+    ensures { λ r. ⌜ r ≡ heldAt (now (words .entry)) ⌝ }
+{
+    if words.len() != STATE_WORDS {
+        let none = Counts {
+            rows: 0,
+            s_words: 0,
+            cells: 0,
+            tables: 0,
+            table_rows: 0,
+            phase: NEVER,
+        };
+        return no_state(none);
+    }
+    let counts = counts_at(words);
+    let parameters = parameters_at(words);
+    if lookup_fits(parameters.mode, parameters.width, parameters.share) {
+        let lookup = parameters.lookup();
+        let told = Told {
+            degree: words[TAIL_FROM + 1],
+            constants: words[TAIL_FROM + 2],
+            factor: words[TAIL_FROM + 3],
+        };
+        let outline = Outline {
+            trace: parameters.trace,
+            copy: parameters.copy,
+            allowed: parameters.allowed,
+            specialised: parameters.specialised,
+            variables: parameters.variables,
+            lookup: lookup,
+            gate_count: words[COUNT_AT],
+            node_count: words[TAIL_FROM],
+            told: told,
+        };
+        return Held {
+            fits: true,
+            outline: outline,
+            counts: counts,
+        };
+    }
+    no_state(counts)
+}
+
+// The marks of a state's words; of another number of words zeros.
+pub fn marks_of(words: &[u64]) -> Marks
+    ensures { λ r. ⌜ r ≡ marksRead (now (words .entry)) ⌝ }
+{
+    let mut used = [0; MOST_GATES];
+    if words.len() == STATE_WORDS {
+        copy_words(&words[USED_FROM..PHASE_AT], 0, &mut used);
+    }
+    used
+}
