@@ -1,6 +1,6 @@
 -- A list of calls over a state's words, by the number of words.
 --
--- Main statements: `list-given`, `list-kept`, `list-ran`.
+-- Main statements: `list-given`, `list-kept`.
 use Prim.Native.Nat.{ℕ}
 use borrow.Author.Tests.{eq-eqb, ne-eqb}
 use lib.Dec.{eqb}
@@ -24,18 +24,3 @@ list-given t old e = sym (pick-yes (eqb (length old) stateLength) (progressAfter
 pub list-kept : (t : Taken) (old : List ℕ) → length old ≢ stateLength → old ≡ listAfter t old
 unfolding listAfter
 list-kept t old d = sym (pick-no (eqb (length old) stateLength) (progressAfter t old) old (ne-eqb (length old) stateLength d))
-
--- the list run from the decoded state is the list run over its words
-pub list-ran : (ws list ns : List ℕ) (b : Store) (s : Intake) (t : Taken) (w m : List ℕ) (a : Store)
-    → s ≡ intakeOf ws
-    → w ≡ listAfter t ws
-    → let ran : Intake → Ran = λ (i : Intake). ranBy (callsOf list) (record { state = i; store = b }) ns in t ≡ ran s .answer
-    → a ≡ ran s .store
-    → m ≡ ran s .numbers
-    → let r = ranOver ws list ns b in (t .number ≡ r .answer .number) × ((w ≡ listAfter (r .answer) ws) × ((m ≡ r .numbers) × (a ≡ r .store)))
-list-ran ws list ns b s t w m a es ew et ea em =
-    let ran : Intake → Ran = λ (i : Intake). ranBy (callsOf list) (record { state = i; store = b }) ns in
-    let e : t ≡ ran (intakeOf ws) .answer = et ∙ ap (λ (i : Intake). ran i .answer) es in (
-      ap (λ (x : Taken). x .number) e,
-      (ew ∙ ap (λ (x : Taken). listAfter x ws) e, (em ∙ ap (λ (i : Intake). ran i .numbers) es, ea ∙ ap (λ (i : Intake). ran i .store) es)),
-    )

@@ -1,22 +1,26 @@
 -- Opening and the calls after it, case by case.
 --
--- Main definitions: `PlanThere`. Main statements: `state-given`, `state-kept`; `progress-given`, `progress-kept`, `progress-state`, `passed`; `rows-there`, `words-there`, `cells-there`, `tables-there`, `finish-there`; `open-short`,
+-- Main definitions: `PlanThere`. Main statements: `state-given`, `state-kept`; `progress-given`, `progress-kept`, `progress-state`, `passed`; `rows-there`, `words-there`, `cells-there`, `tables-there`, `finish-there`; `rows-back`, `words-back`, `cells-back`, `tables-back`, `finish-back` and `..-none`; `open-short`,
 -- `open-made-up`, `open-given`.
 use Prim.Native.Nat.{_<_, _≤_, ℕ}
 use borrow.Author.Tests.{eq-eqb, le-leb, lt-leb, ne-eqb}
 use lib.Dec.{eqb, leb}
 use lib.ListN.{length}
 use mathlib.Core.Bool.{Bool, false, true}
-use mathlib.Core.List.{List}
+use mathlib.Core.List.{List, []}
 use mathlib.Core.Logic.{_≢_}
 use mathlib.Core.Path.{_∙_, _≡_, ap, refl, sym}
 use native.Mathlib.Decide.{ℕ-discrete}
 use native.Mathlib.Omega.{arith}
 use Rattle.base.specs.Pick.{pick, pick-no, pick-yes}
-use Rattle.columns.specs.Intake.{answered, cellsAnswer, finishAnswer, openAnswer, openLeft, refusedWith, rowsAnswer, sWordsAnswer, settingOf, stateOf, tablesAnswer, withState}
-use Rattle.columns.specs.IntakeLaws.{cells-19, finish-19, open-19, open-refused, plan-fine, rows-19, tables-19, words-19}
+use Rattle.columns.specs.Given.{counted, givenOf, intakeIn, markedOf, markedWith}
+use Rattle.columns.specs.GivenLaws.{bare, cells-whole, finish-whole, tables-whole, words-whole}
+use Rattle.columns.specs.Intake.{answered, cellsAnswer, cellsLeft, finishAnswer, finishLeft, openAnswer, openLeft, refusedWith, rowsAnswer, rowsLeft, sWordsAnswer, sWordsLeft, settingOf, stateOf, tablesAnswer, tablesLeft, withState}
+use Rattle.columns.specs.IntakeLaws.{cells-19, cells-refused, falls-plan, finish-19, finish-refused, open-19, open-refused, plan-fine, rows-19, rows-refused, tables-19, tables-refused, words-19, words-refused}
 use Rattle.columns.specs.declared.intake.Intake.{Intake}
 use Rattle.columns.specs.declared.intake.Taken.{Taken}
+use Rattle.columns.specs.declared.take.Given.{Given}
+use Rattle.columns.specs.declared.take.Marked.{Marked}
 use Rattle.pieces.specs.Cells.{cellsNumber, cellsState}
 use Rattle.pieces.specs.Finishing.{finishNumber, finishedState}
 use Rattle.pieces.specs.Opening.{openNumber, openState, zeroState}
@@ -27,13 +31,15 @@ use Rattle.pieces.specs.Setting.{Cols, State, Store, stands}
 use Rattle.pieces.specs.Tables.{tablesNumber, tablesState}
 use Rattle.tree.specs.Plan.{planFault, zeroPlan}
 use Rattle.tree.specs.declared.plan.Plan.{Plan}
-use Rattle.encoding.specs.Encoding.{handed, intakeOf, intakeWords, planOf, planWords, progressOf, progressed, stateLength}
+use Rattle.encoding.specs.Encoding.{handed, intakeOf, intakeWords, marksAt, planOf, planWords, progressIn, progressOf, progressed, stateLength}
+use Rattle.encoding.specs.Held.{Holds, gatesIn, heldAt, holds, marksRead, nodesIn, none-fault}
+use Rattle.encoding.specs.declared.held.Held.{Held}
 use Rattle.encoding.specs.EncodingLaws.{handed-short, plan-there, state-length, state-progressed}
 use Rattle.selector.specs.Gates.{gateSlots}
 use Rattle.base.specs.Limits.{mostGates}
 use Rattle.selector.specs.Nodes.{nodeSlots}
 use Rattle.capi.specs.Lengths.{Long, long-like, marked-long, own-plan, used-long}
-use Rattle.capi.specs.Intake.{openCall, openedState, openedStore, progressAfter, stateAfter}
+use Rattle.capi.specs.Intake.{countedAfter, markedAfter, openCall, openedState, openedStore, progressAfter, stateAfter}
 
 -- ---- the state's words after a call
 pub state-given : (t : Taken) (old : List ℕ) → t .number ≡ 0 → handed (intakeWords (t .state)) old ≡ stateAfter t old
@@ -45,13 +51,19 @@ abbrev pub PlanThere : Taken → List ℕ → Type 0
 PlanThere t old = t .number ≡ 0 → Long (t .state) × (handed (planWords (t .state .plan)) old ≡ old)
 
 -- all but the plan's words are written, or nothing
-pub progress-given : (t : Taken) (old : List ℕ) → t .number ≡ 0 → progressed (progressOf (t .state)) old ≡ progressAfter t old
+pub marked-given : (m : Marked) (old : List ℕ) → m .number ≡ 0 → progressed (progressIn (m .counts) (m .used)) old ≡ markedAfter m old
 unfolding markedAfter
-progress-given t old e = sym (pick-yes (eqb (t .number) 0) (progressed (progressOf (t .state)) old) old (eq-eqb (t .number) 0 e))
+marked-given m old e = sym (pick-yes (eqb (m .number) 0) (progressed (progressIn (m .counts) (m .used)) old) old (eq-eqb (m .number) 0 e))
+
+pub marked-kept : (m : Marked) (old : List ℕ) → m .number ≢ 0 → old ≡ markedAfter m old
+unfolding markedAfter
+marked-kept m old d = sym (pick-no (eqb (m .number) 0) (progressed (progressIn (m .counts) (m .used)) old) old (ne-eqb (m .number) 0 d))
+
+pub progress-given : (t : Taken) (old : List ℕ) → t .number ≡ 0 → progressed (progressOf (t .state)) old ≡ progressAfter t old
+progress-given t old e = marked-given (markedOf t) old e
 
 pub progress-kept : (t : Taken) (old : List ℕ) → t .number ≢ 0 → old ≡ progressAfter t old
-unfolding markedAfter
-progress-kept t old d = sym (pick-no (eqb (t .number) 0) (progressed (progressOf (t .state)) old) old (ne-eqb (t .number) 0 d))
+progress-kept t old d = marked-kept (markedOf t) old d
 
 pub state-kept : (t : Taken) (old : List ℕ) → t .number ≢ 0 → old ≡ stateAfter t old
 unfolding stateAfter
@@ -139,6 +151,101 @@ module _ (ws : List ℕ) (s : Intake) (t : Taken) (e : s ≡ intakeOf ws) where
   pub finish-there : (b : Cols) → t ≡ finishAnswer s b → PlanThere t ws
   unfolding finishAnswer
   finish-there b h = answered-there ws s (finishNumber (settingOf (s .plan)) (stateOf s) b) (finishedState (stateOf s)) t e h still-long (finish-19 s b)
+
+-- ---- the calls on the parts that stand in the words
+module _ (ws : List ℕ) (h : Held) (e : h ≡ heldAt ws) (f : h .fits ≡ true) where
+  there : Holds ws h
+  there = holds ws h e f
+
+  -- the state that the words encode, and it without its marks
+  abbrev it : Intake
+  it = intakeOf ws
+
+  abbrev parts : List ℕ → Intake
+  parts us = intakeIn (h .outline) (gatesIn ws) (nodesIn ws) (h .counts) us
+
+  bare-parts : parts [] ≡ bare it
+  bare-parts = ap bare (there .parts)
+
+  marks-are : it .used ≡ marksAt ws
+  marks-are = sym (ap (λ (s : Intake). s .used) (there .parts))
+
+  -- what such a call gave back, with the state's plan and marks, is the call's answer
+  pub given-back : (g : Given) (t : Taken) (r : ℕ) (w : List ℕ) → t ≡ counted it g → r ≡ g .number → w ≡ countedAfter g ws → PlanThere t ws
+      → (r ≡ t .number) × (w ≡ stateAfter t ws)
+  given-back g t r w et er ew p =
+      let m : markedWith (g .number) (g .counts) (marksAt ws) ≡ markedOf t = ap (λ (us : List ℕ). markedWith (g .number) (g .counts) us) (sym marks-are) ∙ ap markedOf (sym et) in
+      passed ws t r w (er ∙ ap (λ (x : Taken). x .number) (sym et)) (ew ∙ ap (λ (x : Marked). markedAfter x ws) m) p
+
+  pub words-back : (piece b : List ℕ) (g : Given) (r : ℕ) (w a : List ℕ) → g ≡ givenOf (sWordsAnswer (parts []) piece b) → a ≡ sWordsLeft (parts []) piece b → r ≡ g .number → w ≡ countedAfter g ws
+      → (r ≡ sWordsAnswer it piece b .number) × ((w ≡ stateAfter (sWordsAnswer it piece b) ws) × (a ≡ sWordsLeft it piece b))
+  words-back piece b g r w a eg ea er ew =
+      let k = words-whole it piece b in
+      let t : sWordsAnswer it piece b ≡ counted it g = sym (ap (counted it) (eg ∙ ap (λ (s : Intake). givenOf (sWordsAnswer s piece b)) bare-parts) ∙ k .0) in
+      let d = given-back g (sWordsAnswer it piece b) r w t er ew (words-there ws it (sWordsAnswer it piece b) refl piece b refl) in
+      (d .0, (d .1, ea ∙ ap (λ (s : Intake). sWordsLeft s piece b) bare-parts ∙ k .1))
+
+  pub cells-back : (piece : List ℕ) (b : Cols) (g : Given) (r : ℕ) (w : List ℕ) (a : Cols) → g ≡ givenOf (cellsAnswer (parts []) piece b) → a ≡ cellsLeft (parts []) piece b → r ≡ g .number → w ≡ countedAfter g ws
+      → (r ≡ cellsAnswer it piece b .number) × ((w ≡ stateAfter (cellsAnswer it piece b) ws) × (a ≡ cellsLeft it piece b))
+  cells-back piece b g r w a eg ea er ew =
+      let k = cells-whole it piece b in
+      let t : cellsAnswer it piece b ≡ counted it g = sym (ap (counted it) (eg ∙ ap (λ (s : Intake). givenOf (cellsAnswer s piece b)) bare-parts) ∙ k .0) in
+      let d = given-back g (cellsAnswer it piece b) r w t er ew (cells-there ws it (cellsAnswer it piece b) refl piece b refl) in
+      (d .0, (d .1, ea ∙ ap (λ (s : Intake). cellsLeft s piece b) bare-parts ∙ k .1))
+
+  pub tables-back : (piece b : List ℕ) (g : Given) (r : ℕ) (w a : List ℕ) → g ≡ givenOf (tablesAnswer (parts []) piece b) → a ≡ tablesLeft (parts []) piece b → r ≡ g .number → w ≡ countedAfter g ws
+      → (r ≡ tablesAnswer it piece b .number) × ((w ≡ stateAfter (tablesAnswer it piece b) ws) × (a ≡ tablesLeft it piece b))
+  tables-back piece b g r w a eg ea er ew =
+      let k = tables-whole it piece b in
+      let t : tablesAnswer it piece b ≡ counted it g = sym (ap (counted it) (eg ∙ ap (λ (s : Intake). givenOf (tablesAnswer s piece b)) bare-parts) ∙ k .0) in
+      let d = given-back g (tablesAnswer it piece b) r w t er ew (tables-there ws it (tablesAnswer it piece b) refl piece b refl) in
+      (d .0, (d .1, ea ∙ ap (λ (s : Intake). tablesLeft s piece b) bare-parts ∙ k .1))
+
+  -- where the marks are read and lent too
+  whole-parts : (us : List ℕ) → us ≡ marksRead ws → parts us ≡ it
+  whole-parts us u = ap parts (u ∙ there .marks) ∙ there .parts
+
+  pub finish-back : (us : List ℕ) → us ≡ marksRead ws → (b : Cols) (g : Given) (r : ℕ) (w a : List ℕ) → g ≡ givenOf (finishAnswer (parts us) b) → a ≡ finishLeft (parts us) b → r ≡ g .number → w ≡ countedAfter g ws
+      → (r ≡ finishAnswer it b .number) × ((w ≡ stateAfter (finishAnswer it b) ws) × (a ≡ finishLeft it b))
+  finish-back us u b g r w a eg ea er ew =
+      let t : finishAnswer it b ≡ counted it g = sym (ap (counted it) (eg ∙ ap (λ (s : Intake). givenOf (finishAnswer s b)) (whole-parts us u)) ∙ finish-whole it b) in
+      let d = given-back g (finishAnswer it b) r w t er ew (finish-there ws it (finishAnswer it b) refl b refl) in
+      (d .0, (d .1, ea ∙ ap (λ (s : Intake). finishLeft s b) (whole-parts us u)))
+
+  pub rows-back : (us : List ℕ) → us ≡ marksRead ws → (piece b : List ℕ) (m : Marked) (r : ℕ) (w a : List ℕ) → m ≡ markedOf (rowsAnswer (parts us) piece b) → a ≡ rowsLeft (parts us) piece b → r ≡ m .number → w ≡ markedAfter m ws
+      → (r ≡ rowsAnswer it piece b .number) × ((w ≡ stateAfter (rowsAnswer it piece b) ws) × (a ≡ rowsLeft it piece b))
+  rows-back us u piece b m r w a em ea er ew =
+      let k : m ≡ markedOf (rowsAnswer it piece b) = em ∙ ap (λ (s : Intake). markedOf (rowsAnswer s piece b)) (whole-parts us u) in
+      let d = passed ws (rowsAnswer it piece b) r w (er ∙ ap (λ (x : Marked). x .number) k) (ew ∙ ap (λ (x : Marked). markedAfter x ws) k) (rows-there ws it (rowsAnswer it piece b) refl piece b refl) in
+      (d .0, (d .1, ea ∙ ap (λ (s : Intake). rowsLeft s piece b) (whole-parts us u)))
+
+-- words that hold no state: 19, and nothing is written
+module _ (ws : List ℕ) (h : Held) (e : h ≡ heldAt ws) (f : h .fits ≡ false) where
+  abbrev made-up : Intake
+  made-up = intakeOf ws
+
+  falls : stands (settingOf (made-up .plan)) (stateOf made-up) ≡ false
+  falls = falls-plan made-up (none-fault ws h e f)
+
+  refused-back : {B : Type 0} (t : Taken) (b a : B) → (refusedWith 19 made-up ≡ t) × (b ≡ a) → (19 ≡ t .number) × ((ws ≡ stateAfter t ws) × (b ≡ a))
+  refused-back t b a k =
+      let n = ap (λ (x : Taken). x .number) (k .0) in
+      (n, (state-kept t ws (λ z. omega (arith, n, z)), k .1))
+
+  pub rows-none : (piece b : List ℕ) → (19 ≡ rowsAnswer made-up piece b .number) × ((ws ≡ stateAfter (rowsAnswer made-up piece b) ws) × (b ≡ rowsLeft made-up piece b))
+  rows-none piece b = refused-back (rowsAnswer made-up piece b) b (rowsLeft made-up piece b) (rows-refused made-up piece b 19 (rows-19 made-up piece b falls) (λ z. omega arith))
+
+  pub words-none : (piece b : List ℕ) → (19 ≡ sWordsAnswer made-up piece b .number) × ((ws ≡ stateAfter (sWordsAnswer made-up piece b) ws) × (b ≡ sWordsLeft made-up piece b))
+  words-none piece b = refused-back (sWordsAnswer made-up piece b) b (sWordsLeft made-up piece b) (words-refused made-up piece b 19 (words-19 made-up piece b falls) (λ z. omega arith))
+
+  pub cells-none : (piece : List ℕ) (b : Cols) → (19 ≡ cellsAnswer made-up piece b .number) × ((ws ≡ stateAfter (cellsAnswer made-up piece b) ws) × (b ≡ cellsLeft made-up piece b))
+  cells-none piece b = refused-back (cellsAnswer made-up piece b) b (cellsLeft made-up piece b) (cells-refused made-up piece b 19 (cells-19 made-up piece b falls) (λ z. omega arith))
+
+  pub tables-none : (piece b : List ℕ) → (19 ≡ tablesAnswer made-up piece b .number) × ((ws ≡ stateAfter (tablesAnswer made-up piece b) ws) × (b ≡ tablesLeft made-up piece b))
+  tables-none piece b = refused-back (tablesAnswer made-up piece b) b (tablesLeft made-up piece b) (tables-refused made-up piece b 19 (tables-19 made-up piece b falls) (λ z. omega arith))
+
+  pub finish-none : (b : Cols) → (19 ≡ finishAnswer made-up b .number) × ((ws ≡ stateAfter (finishAnswer made-up b) ws) × (b .copies ≡ finishLeft made-up b))
+  finish-none b = refused-back (finishAnswer made-up b) (b .copies) (finishLeft made-up b) (finish-refused made-up b 19 (finish-19 made-up b falls) (λ z. omega arith))
 
 -- ---- opening
 -- the state that opening hands back has a state's words

@@ -1,19 +1,43 @@
--- `intake::kinchoyu_cells` meets its contract: the call of the state that the words encode.
+-- `intake::kinchoyu_cells` meets its contract: the call on the parts that stand in the words is the call of the state that they encode.
 -- Assumes nothing.
 use borrow.Author.Needs.{needs}
-use mathlib.Core.Path.{_∙_, ap}
-use Rattle.columns.specs.Intake.{cellsAnswer, cellsLeft}
-use Rattle.columns.specs.declared.intake.Intake.{Intake}
+use lib.ListN.{length}
+use mathlib.Core.Path.{_≡_}
+use native.Mathlib.Omega.{arith}
 use Rattle.pieces.specs.Setting.{cols}
-use Rattle.capi.specs.IntakeLaws.{cells-there, passed}
+use Rattle.encoding.specs.Encoding.{stateLength}
+use Rattle.encoding.specs.Held.{holds}
+use Rattle.capi.specs.IntakeLaws.{cells-back, cells-none}
 use Rattle.capi.proofs.intake.kinchoyu_cells.Statement.{statement}
 use Rattle.capi.proofs.intake.kinchoyu_cells.Tie as tie
 
-decode-state-requires : tie.Need-decode-state-requires
-decode-state-requires c κs = search needs
+held-at-requires : tie.Need-held-at-requires
+held-at-requires c κs = search needs
 
-cells-requires : tie.Need-cells-requires
-cells-requires c κs = search needs
+sub-take-cells : tie.Need-sub-take-cells
+sub-take-cells c = search needs
+
+part-take-cells-start : tie.Need-part-take-cells-start
+part-take-cells-start c = search needs
+
+-- the words are as many as a state's
+long : (c : tie.Then1) → length (c .before .before .before .before .before .before .before .args .state .now) ≡ stateLength
+long c = holds (c .before .before .before .before .before .before .before .args .state .now) (c .before .held-at .result) (c .before .held-at .ensures) (c .if1 .taken) .long
+
+part-take-cells-end : tie.Need-part-take-cells-end
+part-take-cells-end c = omega (arith, long (c .before))
+
+sub-take-cells-2 : tie.Need-sub-take-cells-2
+sub-take-cells-2 c = search needs
+
+part-take-cells-start-2 : tie.Need-part-take-cells-start-2
+part-take-cells-start-2 c = search needs
+
+part-take-cells-end-2 : tie.Need-part-take-cells-end-2
+part-take-cells-end-2 c = omega (arith, long (c .before .before))
+
+take-cells-requires : tie.Need-take-cells-requires
+take-cells-requires c κs = search needs
 
 give-back-requires : tie.Need-give-back-requires
 give-back-requires c κs = search needs
@@ -29,22 +53,34 @@ same-length-3 c = search needs
 
 returns : tie.Need-returns
 returns c =
-    let a = c .before .before .before .before .before .before .before .before .before .before .before .before .before .before .before .before .before .args in
+    let a = c .before .before .before .before .before .before .before .before .before .before .before .before .before .before .before .before .before .before .before .before .before .args in
     let b = cols (a .copies .now) (a .scratch .now) in
-    let e = c .before .before .before .before .before .before .before .before .before .before .before .decode-state .ensures in
-    let t = c .before .before .before .before .before .before .before .before .cells .ensures in
-    let g = c .before .before .give-back .ensures in
-    let k = passed (λ (s : Intake). cellsAnswer s (a .piece .now) b) (a .state .now) _ _ _ _ e (t .0) (g .0) (g .1) (cells-there _ _ _ e _ _ (t .0)) in
-    (k .0, (k .1, t .1 ∙ ap (λ (s : Intake). cellsLeft s (a .piece .now) b) e))
+    cells-back (a .state .now) (c .before .before .before .before .before .before .before .before .before .before .before .before .before .before .before .held-at .result) (c .before .before .before .before .before .before .before .before .before .before .before .before .before .before .before .held-at .ensures) (c .before .before .before .before .before .before .before .before .before .before .before .before .before .before .if1 .taken) (a .piece .now) b (c .before .before .before .before .before .before .before .before .take-cells .result) _ _ _ (c .before .before .before .before .before .before .before .before .take-cells .ensures .0) (c .before .before .before .before .before .before .before .before .take-cells .ensures .1) (c .before .before .give-back .ensures .0) (c .before .before .give-back .ensures .1)
+
+same-length-4 : tie.Need-same-length-4
+same-length-4 c = search needs
+
+returns-2 : tie.Need-returns-2
+returns-2 c =
+    let a = c .before .before .before .before .before .before .before .args in
+    cells-none (a .state .now) (c .before .held-at .result) (c .before .held-at .ensures) (c .if1 .left) (a .piece .now) (cols (a .copies .now) (a .scratch .now))
 
 pub kinchoyu-cells-spec : {M : Type 1} → statement M
 kinchoyu-cells-spec =
     tie.close
     (tie.spec
-    decode-state-requires
-    cells-requires
+    held-at-requires
+    sub-take-cells
+    part-take-cells-start
+    part-take-cells-end
+    sub-take-cells-2
+    part-take-cells-start-2
+    part-take-cells-end-2
+    take-cells-requires
     give-back-requires
     same-length
     same-length-2
     same-length-3
-    returns)
+    returns
+    same-length-4
+    returns-2)

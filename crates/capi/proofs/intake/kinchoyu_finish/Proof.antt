@@ -1,19 +1,46 @@
--- `intake::kinchoyu_finish` meets its contract: the call of the state that the words encode.
+-- `intake::kinchoyu_finish` meets its contract: the call on the parts that stand in the words is the call of the state that they encode.
 -- Assumes nothing.
 use borrow.Author.Needs.{needs}
-use mathlib.Core.Path.{_∙_, ap}
-use Rattle.columns.specs.Intake.{finishAnswer, finishLeft}
-use Rattle.columns.specs.declared.intake.Intake.{Intake}
+use lib.ListN.{length}
+use mathlib.Core.Path.{_≡_}
+use native.Mathlib.Omega.{arith}
 use Rattle.pieces.specs.Setting.{cols}
-use Rattle.capi.specs.IntakeLaws.{finish-there, passed}
+use Rattle.encoding.specs.Encoding.{stateLength}
+use Rattle.encoding.specs.Held.{holds}
+use Rattle.capi.specs.IntakeLaws.{finish-back, finish-none}
 use Rattle.capi.proofs.intake.kinchoyu_finish.Statement.{statement}
 use Rattle.capi.proofs.intake.kinchoyu_finish.Tie as tie
 
-decode-state-requires : tie.Need-decode-state-requires
-decode-state-requires c κs = search needs
+held-at-requires : tie.Need-held-at-requires
+held-at-requires c κs = search needs
 
-finish-requires : tie.Need-finish-requires
-finish-requires c κs = search needs
+marks-of-requires : tie.Need-marks-of-requires
+marks-of-requires c κs = search needs
+
+sub-take-finish : tie.Need-sub-take-finish
+sub-take-finish c = search needs
+
+part-take-finish-start : tie.Need-part-take-finish-start
+part-take-finish-start c = search needs
+
+-- the words are as many as a state's
+long : (c : tie.Then1) → length (c .before .before .before .before .before .before .args .state .now) ≡ stateLength
+long c = holds (c .before .before .before .before .before .before .args .state .now) (c .before .held-at .result) (c .before .held-at .ensures) (c .if1 .taken) .long
+
+part-take-finish-end : tie.Need-part-take-finish-end
+part-take-finish-end c = omega (arith, long (c .before .before .before))
+
+sub-take-finish-2 : tie.Need-sub-take-finish-2
+sub-take-finish-2 c = search needs
+
+part-take-finish-start-2 : tie.Need-part-take-finish-start-2
+part-take-finish-start-2 c = search needs
+
+part-take-finish-end-2 : tie.Need-part-take-finish-end-2
+part-take-finish-end-2 c = omega (arith, long (c .before .before .before .before))
+
+take-finish-requires : tie.Need-take-finish-requires
+take-finish-requires c κs = search needs
 
 give-back-requires : tie.Need-give-back-requires
 give-back-requires c κs = search needs
@@ -26,21 +53,34 @@ same-length-2 c = search needs
 
 returns : tie.Need-returns
 returns c =
-    let a = c .before .before .before .before .before .before .before .before .before .before .before .before .before .args in
+    let a = c .before .before .before .before .before .before .before .before .before .before .before .before .before .before .before .before .before .before .before .args in
     let b = cols (a .copies .now) (a .scratch .now) in
-    let e = c .before .before .before .before .before .before .before .before .decode-state .ensures in
-    let t = c .before .before .before .before .before .before .finish .ensures in
-    let g = c .before .before .give-back .ensures in
-    let k = passed (λ (s : Intake). finishAnswer s b) (a .state .now) _ _ _ _ e (t .0) (g .0) (g .1) (finish-there _ _ _ e _ (t .0)) in
-    (k .0, (k .1, t .1 ∙ ap (λ (s : Intake). finishLeft s b) e))
+    finish-back (a .state .now) (c .before .before .before .before .before .before .before .before .before .before .before .before .before .before .held-at .result) (c .before .before .before .before .before .before .before .before .before .before .before .before .before .before .held-at .ensures) (c .before .before .before .before .before .before .before .before .before .before .before .before .before .if1 .taken) _ (c .before .before .before .before .before .before .before .before .before .before .before .marks-of .ensures) b (c .before .before .before .before .before .before .take-finish .result) _ _ _ (c .before .before .before .before .before .before .take-finish .ensures .0) (c .before .before .before .before .before .before .take-finish .ensures .1) (c .before .before .give-back .ensures .0) (c .before .before .give-back .ensures .1)
+
+same-length-3 : tie.Need-same-length-3
+same-length-3 c = search needs
+
+returns-2 : tie.Need-returns-2
+returns-2 c =
+    let a = c .before .before .before .before .before .before .args in
+    finish-none (a .state .now) (c .before .held-at .result) (c .before .held-at .ensures) (c .if1 .left) (cols (a .copies .now) (a .scratch .now))
 
 pub kinchoyu-finish-spec : {M : Type 1} → statement M
 kinchoyu-finish-spec =
     tie.close
     (tie.spec
-    decode-state-requires
-    finish-requires
+    held-at-requires
+    marks-of-requires
+    sub-take-finish
+    part-take-finish-start
+    part-take-finish-end
+    sub-take-finish-2
+    part-take-finish-start-2
+    part-take-finish-end-2
+    take-finish-requires
     give-back-requires
     same-length
     same-length-2
-    returns)
+    returns
+    same-length-3
+    returns-2)

@@ -1,21 +1,48 @@
--- `intake::kinchoyu_rows` meets its contract: the call of the state that the words encode.
+-- `intake::kinchoyu_rows` meets its contract: the call on the parts that stand in the words is the call of the state that they encode.
 -- Assumes nothing.
 use borrow.Author.Needs.{needs}
-use mathlib.Core.Path.{_∙_, ap}
-use Rattle.columns.specs.Intake.{rowsAnswer, rowsLeft}
-use Rattle.columns.specs.declared.intake.Intake.{Intake}
-use Rattle.capi.specs.IntakeLaws.{passed, rows-there}
+use lib.ListN.{length}
+use mathlib.Core.Path.{_≡_}
+use native.Mathlib.Omega.{arith}
+use Rattle.encoding.specs.Encoding.{stateLength}
+use Rattle.encoding.specs.Held.{holds}
+use Rattle.capi.specs.IntakeLaws.{rows-back, rows-none}
 use Rattle.capi.proofs.intake.kinchoyu_rows.Statement.{statement}
 use Rattle.capi.proofs.intake.kinchoyu_rows.Tie as tie
 
-decode-state-requires : tie.Need-decode-state-requires
-decode-state-requires c κs = search needs
+held-at-requires : tie.Need-held-at-requires
+held-at-requires c κs = search needs
 
-rows-requires : tie.Need-rows-requires
-rows-requires c κs = search needs
+marks-of-requires : tie.Need-marks-of-requires
+marks-of-requires c κs = search needs
 
-give-back-requires : tie.Need-give-back-requires
-give-back-requires c κs = search needs
+sub-take-rows : tie.Need-sub-take-rows
+sub-take-rows c = search needs
+
+part-take-rows-start : tie.Need-part-take-rows-start
+part-take-rows-start c = search needs
+
+-- the words are as many as a state's
+long : (c : tie.Then1) → length (c .before .before .before .before .before .before .args .state .now) ≡ stateLength
+long c = holds (c .before .before .before .before .before .before .args .state .now) (c .before .held-at .result) (c .before .held-at .ensures) (c .if1 .taken) .long
+
+part-take-rows-end : tie.Need-part-take-rows-end
+part-take-rows-end c = omega (arith, long (c .before .before .before))
+
+sub-take-rows-2 : tie.Need-sub-take-rows-2
+sub-take-rows-2 c = search needs
+
+part-take-rows-start-2 : tie.Need-part-take-rows-start-2
+part-take-rows-start-2 c = search needs
+
+part-take-rows-end-2 : tie.Need-part-take-rows-end-2
+part-take-rows-end-2 c = omega (arith, long (c .before .before .before .before))
+
+take-rows-requires : tie.Need-take-rows-requires
+take-rows-requires c κs = search needs
+
+give-marked-back-requires : tie.Need-give-marked-back-requires
+give-marked-back-requires c κs = search needs
 
 same-length : tie.Need-same-length
 same-length c = search needs
@@ -25,20 +52,34 @@ same-length-2 c = search needs
 
 returns : tie.Need-returns
 returns c =
-    let a = c .before .before .before .before .before .before .before .before .before .before .before .before .before .args in
-    let e = c .before .before .before .before .before .before .before .before .decode-state .ensures in
-    let t = c .before .before .before .before .before .before .rows .ensures in
-    let g = c .before .before .give-back .ensures in
-    let k = passed (λ (s : Intake). rowsAnswer s (a .piece .now) (a .constants .now)) (a .state .now) _ _ _ _ e (t .0) (g .0) (g .1) (rows-there _ _ _ e _ _ (t .0)) in
-    (k .0, (k .1, t .1 ∙ ap (λ (s : Intake). rowsLeft s (a .piece .now) (a .constants .now)) e))
+    let a = c .before .before .before .before .before .before .before .before .before .before .before .before .before .before .before .before .before .before .before .args in
+    let b = a .constants .now in
+    rows-back (a .state .now) (c .before .before .before .before .before .before .before .before .before .before .before .before .before .before .held-at .result) (c .before .before .before .before .before .before .before .before .before .before .before .before .before .before .held-at .ensures) (c .before .before .before .before .before .before .before .before .before .before .before .before .before .if1 .taken) _ (c .before .before .before .before .before .before .before .before .before .before .before .marks-of .ensures) (a .piece .now) b (c .before .before .before .before .before .before .take-rows .result) _ _ _ (c .before .before .before .before .before .before .take-rows .ensures .0) (c .before .before .before .before .before .before .take-rows .ensures .1) (c .before .before .give-marked-back .ensures .0) (c .before .before .give-marked-back .ensures .1)
+
+same-length-3 : tie.Need-same-length-3
+same-length-3 c = search needs
+
+returns-2 : tie.Need-returns-2
+returns-2 c =
+    let a = c .before .before .before .before .before .before .args in
+    rows-none (a .state .now) (c .before .held-at .result) (c .before .held-at .ensures) (c .if1 .left) (a .piece .now) (a .constants .now)
 
 pub kinchoyu-rows-spec : {M : Type 1} → statement M
 kinchoyu-rows-spec =
     tie.close
     (tie.spec
-    decode-state-requires
-    rows-requires
-    give-back-requires
+    held-at-requires
+    marks-of-requires
+    sub-take-rows
+    part-take-rows-start
+    part-take-rows-end
+    sub-take-rows-2
+    part-take-rows-start-2
+    part-take-rows-end-2
+    take-rows-requires
+    give-marked-back-requires
     same-length
     same-length-2
-    returns)
+    returns
+    same-length-3
+    returns-2)

@@ -1,18 +1,42 @@
--- `intake::kinchoyu_s_words` meets its contract: the call of the state that the words encode.
+-- `intake::kinchoyu_s_words` meets its contract: the call on the parts that stand in the words is the call of the state that they encode.
 -- Assumes nothing.
 use borrow.Author.Needs.{needs}
-use mathlib.Core.Path.{_∙_, ap}
-use Rattle.columns.specs.Intake.{sWordsAnswer, sWordsLeft}
-use Rattle.columns.specs.declared.intake.Intake.{Intake}
-use Rattle.capi.specs.IntakeLaws.{passed, words-there}
+use lib.ListN.{length}
+use mathlib.Core.Path.{_≡_}
+use native.Mathlib.Omega.{arith}
+use Rattle.encoding.specs.Encoding.{stateLength}
+use Rattle.encoding.specs.Held.{holds}
+use Rattle.capi.specs.IntakeLaws.{words-back, words-none}
 use Rattle.capi.proofs.intake.kinchoyu_s_words.Statement.{statement}
 use Rattle.capi.proofs.intake.kinchoyu_s_words.Tie as tie
 
-decode-state-requires : tie.Need-decode-state-requires
-decode-state-requires c κs = search needs
+held-at-requires : tie.Need-held-at-requires
+held-at-requires c κs = search needs
 
-s-words-requires : tie.Need-s-words-requires
-s-words-requires c κs = search needs
+sub-take-s-words : tie.Need-sub-take-s-words
+sub-take-s-words c = search needs
+
+part-take-s-words-start : tie.Need-part-take-s-words-start
+part-take-s-words-start c = search needs
+
+-- the words are as many as a state's
+long : (c : tie.Then1) → length (c .before .before .before .before .before .before .args .state .now) ≡ stateLength
+long c = holds (c .before .before .before .before .before .before .args .state .now) (c .before .held-at .result) (c .before .held-at .ensures) (c .if1 .taken) .long
+
+part-take-s-words-end : tie.Need-part-take-s-words-end
+part-take-s-words-end c = omega (arith, long (c .before))
+
+sub-take-s-words-2 : tie.Need-sub-take-s-words-2
+sub-take-s-words-2 c = search needs
+
+part-take-s-words-start-2 : tie.Need-part-take-s-words-start-2
+part-take-s-words-start-2 c = search needs
+
+part-take-s-words-end-2 : tie.Need-part-take-s-words-end-2
+part-take-s-words-end-2 c = omega (arith, long (c .before .before))
+
+take-s-words-requires : tie.Need-take-s-words-requires
+take-s-words-requires c κs = search needs
 
 give-back-requires : tie.Need-give-back-requires
 give-back-requires c κs = search needs
@@ -25,20 +49,33 @@ same-length-2 c = search needs
 
 returns : tie.Need-returns
 returns c =
-    let a = c .before .before .before .before .before .before .before .before .before .before .before .before .before .args in
-    let e = c .before .before .before .before .before .before .before .before .decode-state .ensures in
-    let t = c .before .before .before .before .before .before .s-words .ensures in
-    let g = c .before .before .give-back .ensures in
-    let k = passed (λ (s : Intake). sWordsAnswer s (a .piece .now) (a .constants .now)) (a .state .now) _ _ _ _ e (t .0) (g .0) (g .1) (words-there _ _ _ e _ _ (t .0)) in
-    (k .0, (k .1, t .1 ∙ ap (λ (s : Intake). sWordsLeft s (a .piece .now) (a .constants .now)) e))
+    let a = c .before .before .before .before .before .before .before .before .before .before .before .before .before .before .before .before .before .args in
+    let b = a .constants .now in
+    words-back (a .state .now) (c .before .before .before .before .before .before .before .before .before .before .before .before .held-at .result) (c .before .before .before .before .before .before .before .before .before .before .before .before .held-at .ensures) (c .before .before .before .before .before .before .before .before .before .before .before .if1 .taken) (a .piece .now) b (c .before .before .before .before .before .before .take-s-words .result) _ _ _ (c .before .before .before .before .before .before .take-s-words .ensures .0) (c .before .before .before .before .before .before .take-s-words .ensures .1) (c .before .before .give-back .ensures .0) (c .before .before .give-back .ensures .1)
+
+same-length-3 : tie.Need-same-length-3
+same-length-3 c = search needs
+
+returns-2 : tie.Need-returns-2
+returns-2 c =
+    let a = c .before .before .before .before .before .before .args in
+    words-none (a .state .now) (c .before .held-at .result) (c .before .held-at .ensures) (c .if1 .left) (a .piece .now) (a .constants .now)
 
 pub kinchoyu-s-words-spec : {M : Type 1} → statement M
 kinchoyu-s-words-spec =
     tie.close
     (tie.spec
-    decode-state-requires
-    s-words-requires
+    held-at-requires
+    sub-take-s-words
+    part-take-s-words-start
+    part-take-s-words-end
+    sub-take-s-words-2
+    part-take-s-words-start-2
+    part-take-s-words-end-2
+    take-s-words-requires
     give-back-requires
     same-length
     same-length-2
-    returns)
+    returns
+    same-length-3
+    returns-2)

@@ -1,18 +1,42 @@
--- `intake::kinchoyu_tables` meets its contract: the call of the state that the words encode.
+-- `intake::kinchoyu_tables` meets its contract: the call on the parts that stand in the words is the call of the state that they encode.
 -- Assumes nothing.
 use borrow.Author.Needs.{needs}
-use mathlib.Core.Path.{_∙_, ap}
-use Rattle.columns.specs.Intake.{tablesAnswer, tablesLeft}
-use Rattle.columns.specs.declared.intake.Intake.{Intake}
-use Rattle.capi.specs.IntakeLaws.{passed, tables-there}
+use lib.ListN.{length}
+use mathlib.Core.Path.{_≡_}
+use native.Mathlib.Omega.{arith}
+use Rattle.encoding.specs.Encoding.{stateLength}
+use Rattle.encoding.specs.Held.{holds}
+use Rattle.capi.specs.IntakeLaws.{tables-back, tables-none}
 use Rattle.capi.proofs.intake.kinchoyu_tables.Statement.{statement}
 use Rattle.capi.proofs.intake.kinchoyu_tables.Tie as tie
 
-decode-state-requires : tie.Need-decode-state-requires
-decode-state-requires c κs = search needs
+held-at-requires : tie.Need-held-at-requires
+held-at-requires c κs = search needs
 
-tables-requires : tie.Need-tables-requires
-tables-requires c κs = search needs
+sub-take-tables : tie.Need-sub-take-tables
+sub-take-tables c = search needs
+
+part-take-tables-start : tie.Need-part-take-tables-start
+part-take-tables-start c = search needs
+
+-- the words are as many as a state's
+long : (c : tie.Then1) → length (c .before .before .before .before .before .before .args .state .now) ≡ stateLength
+long c = holds (c .before .before .before .before .before .before .args .state .now) (c .before .held-at .result) (c .before .held-at .ensures) (c .if1 .taken) .long
+
+part-take-tables-end : tie.Need-part-take-tables-end
+part-take-tables-end c = omega (arith, long (c .before))
+
+sub-take-tables-2 : tie.Need-sub-take-tables-2
+sub-take-tables-2 c = search needs
+
+part-take-tables-start-2 : tie.Need-part-take-tables-start-2
+part-take-tables-start-2 c = search needs
+
+part-take-tables-end-2 : tie.Need-part-take-tables-end-2
+part-take-tables-end-2 c = omega (arith, long (c .before .before))
+
+take-tables-requires : tie.Need-take-tables-requires
+take-tables-requires c κs = search needs
 
 give-back-requires : tie.Need-give-back-requires
 give-back-requires c κs = search needs
@@ -25,20 +49,33 @@ same-length-2 c = search needs
 
 returns : tie.Need-returns
 returns c =
-    let a = c .before .before .before .before .before .before .before .before .before .before .before .before .before .args in
-    let e = c .before .before .before .before .before .before .before .before .decode-state .ensures in
-    let t = c .before .before .before .before .before .before .tables .ensures in
-    let g = c .before .before .give-back .ensures in
-    let k = passed (λ (s : Intake). tablesAnswer s (a .piece .now) (a .tables .now)) (a .state .now) _ _ _ _ e (t .0) (g .0) (g .1) (tables-there _ _ _ e _ _ (t .0)) in
-    (k .0, (k .1, t .1 ∙ ap (λ (s : Intake). tablesLeft s (a .piece .now) (a .tables .now)) e))
+    let a = c .before .before .before .before .before .before .before .before .before .before .before .before .before .before .before .before .before .args in
+    let b = a .tables .now in
+    tables-back (a .state .now) (c .before .before .before .before .before .before .before .before .before .before .before .before .held-at .result) (c .before .before .before .before .before .before .before .before .before .before .before .before .held-at .ensures) (c .before .before .before .before .before .before .before .before .before .before .before .if1 .taken) (a .piece .now) b (c .before .before .before .before .before .before .take-tables .result) _ _ _ (c .before .before .before .before .before .before .take-tables .ensures .0) (c .before .before .before .before .before .before .take-tables .ensures .1) (c .before .before .give-back .ensures .0) (c .before .before .give-back .ensures .1)
+
+same-length-3 : tie.Need-same-length-3
+same-length-3 c = search needs
+
+returns-2 : tie.Need-returns-2
+returns-2 c =
+    let a = c .before .before .before .before .before .before .args in
+    tables-none (a .state .now) (c .before .held-at .result) (c .before .held-at .ensures) (c .if1 .left) (a .piece .now) (a .tables .now)
 
 pub kinchoyu-tables-spec : {M : Type 1} → statement M
 kinchoyu-tables-spec =
     tie.close
     (tie.spec
-    decode-state-requires
-    tables-requires
+    held-at-requires
+    sub-take-tables
+    part-take-tables-start
+    part-take-tables-end
+    sub-take-tables-2
+    part-take-tables-start-2
+    part-take-tables-end-2
+    take-tables-requires
     give-back-requires
     same-length
     same-length-2
-    returns)
+    returns
+    same-length-3
+    returns-2)

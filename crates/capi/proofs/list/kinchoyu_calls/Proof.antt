@@ -1,17 +1,17 @@
--- `list::kinchoyu_calls` meets its contract: the list is run from the state that the words encode, which are written where they are as many as a state has.
+-- `list::kinchoyu_calls` meets its contract: the list is run over the words of the state, which are written where they are as many as a state has.
 -- Assumes nothing.
 use borrow.Author.Needs.{needs}
-use mathlib.Core.Path.{_∙_}
+use mathlib.Core.Path.{_∙_, ap}
 use Rattle.columns.specs.Intake.{storeOf}
-use Rattle.capi.specs.CallsLaws.{list-given, list-kept, list-ran}
+use Rattle.columns.specs.declared.take.Marked.{Marked}
+use Rattle.capi.specs.Calls.{ranOver}
+use Rattle.capi.specs.CallsLaws.{list-given, list-kept}
+use Rattle.capi.specs.Intake.{markedAfter}
 use Rattle.capi.proofs.list.kinchoyu_calls.Statement.{statement}
 use Rattle.capi.proofs.list.kinchoyu_calls.Tie as tie
 
-decode-state-requires : tie.Need-decode-state-requires
-decode-state-requires c κs = search needs
-
-run-calls-requires : tie.Need-run-calls-requires
-run-calls-requires c κs = search needs
+run-over-requires : tie.Need-run-over-requires
+run-over-requires c κs = search needs
 
 same-length : tie.Need-same-length
 same-length c = search needs
@@ -33,13 +33,13 @@ same-length-6 c = search needs
 
 returns : tie.Need-returns
 returns c =
-    let a = c .before .before .before .before .before .before .before .before .before .before .before .before .before .before .before .before .before .before .before .before .before .before .before .before .before .before .args in
-    let r = c .before .before .before .before .before .before .before .before .before .before .before .run-calls .ensures in
-    let e = c .before .before .before .before .before .before .before .before .before .before .before .before .before .before .before .before .before .decode-state .ensures in
-    list-ran (a .state .now) (a .list .now) (a .numbers .now) (storeOf (a .constants .now) (a .copies .now) (a .scratch .now) (a .tables .now)) _ _ _ _ _ e (list-kept _ _ (c .if1 .taken)) (r .0) (r .1 .0) (r .1 .1)
+    let a = c .before .before .before .before .before .before .before .before .before .before .before .before .before .before .before .before .before .before .before .before .before .before .before .before .before .args in
+    let r = c .before .before .before .before .before .before .before .before .before .before .before .run-over .ensures in
+    let t = ranOver (a .state .now) (a .list .now) (a .numbers .now) (storeOf (a .constants .now) (a .copies .now) (a .scratch .now) (a .tables .now)) .answer in
+    (ap (λ (m : Marked). m .number) (r .0), (list-kept t (a .state .now) (c .if1 .taken), r .1))
 
-give-back-requires : tie.Need-give-back-requires
-give-back-requires c κs = search needs
+give-marked-back-requires : tie.Need-give-marked-back-requires
+give-marked-back-requires c κs = search needs
 
 same-length-7 : tie.Need-same-length-7
 same-length-7 c = search needs
@@ -61,19 +61,17 @@ same-length-12 c = search needs
 
 returns-2 : tie.Need-returns-2
 returns-2 c =
-    let a = c .before .before .before .before .before .before .before .before .before .before .before .before .before .before .before .before .before .before .before .before .before .before .before .before .before .before .before .before .before .before .args in
-    let r = c .before .before .before .before .before .before .before .before .before .before .before .before .before .before .before .run-calls .ensures in
-    let e = c .before .before .before .before .before .before .before .before .before .before .before .before .before .before .before .before .before .before .before .before .before .decode-state .ensures in
-    let g = c .before .before .give-back .ensures in
-    let k = list-ran (a .state .now) (a .list .now) (a .numbers .now) (storeOf (a .constants .now) (a .copies .now) (a .scratch .now) (a .tables .now)) _ _ _ _ _ e (g .1 ∙ list-given _ _ (c .before .before .before .before .if1 .left)) (r .0) (r .1 .0) (r .1 .1) in
-    (g .0 ∙ k .0, k .1)
+    let a = c .before .before .before .before .before .before .before .before .before .before .before .before .before .before .before .before .before .before .before .before .before .before .before .before .before .before .before .before .before .args in
+    let r = c .before .before .before .before .before .before .before .before .before .before .before .before .before .before .before .run-over .ensures in
+    let g = c .before .before .give-marked-back .ensures in
+    let t = ranOver (a .state .now) (a .list .now) (a .numbers .now) (storeOf (a .constants .now) (a .copies .now) (a .scratch .now) (a .tables .now)) .answer in
+    (g .0 ∙ ap (λ (m : Marked). m .number) (r .0), (g .1 ∙ ap (λ (m : Marked). markedAfter m (a .state .now)) (r .0) ∙ list-given t (a .state .now) (c .before .before .before .before .if1 .left), r .1))
 
 pub kinchoyu-calls-spec : {M : Type 1} → statement M
 kinchoyu-calls-spec =
     tie.close
     (tie.spec
-    decode-state-requires
-    run-calls-requires
+    run-over-requires
     same-length
     same-length-2
     same-length-3
@@ -81,7 +79,7 @@ kinchoyu-calls-spec =
     same-length-5
     same-length-6
     returns
-    give-back-requires
+    give-marked-back-requires
     same-length-7
     same-length-8
     same-length-9
