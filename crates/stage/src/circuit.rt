@@ -1,13 +1,23 @@
 // A whole circuit in one call. A refusal of any step leaves every word of the buffers as it was:
 // the number is known before the first word is written.
 ghost use mathlib.Core.Path.{_≡_};
-ghost use Rattle.columns.specs.Intake.{settingOf, storeOf};
+ghost use Rattle.columns.specs.Intake.{settingOf, storeOf, withState};
+ghost use Rattle.columns.specs.Given.{stateIn, countsOf};
 ghost use Rattle.columns.specs.Sections.{sectionsNumber};
-ghost use Rattle.stage.specs.Circuit.{refusedBy, stageAnswer, stageLeft};
+ghost use Rattle.claim.specs.Chain.{chained};
+ghost use Rattle.claim.specs.Keeping.{keeping};
+ghost use Rattle.stage.specs.Circuit.{calls, refusedBy, stageAnswer, stageLeft};
 ghost use Rattle.stage.specs.CircuitLaws.{plannedLeft};
 use columns::intake::Intake;
 use columns::sections::sections_number;
+use columns::take::Counts;
+use columns::take::take_cells;
+use columns::take::take_finish;
+use columns::take::take_rows;
+use columns::take::take_s_words;
+use columns::take::take_tables;
 use parameters::parameters::Parameters;
+use selector::Marks;
 use tree::plan::Plan;
 use tree::planning::plan;
 
@@ -25,6 +35,48 @@ pub(crate) fn refused(number: u64) -> Staged
         number: number,
         plan: Plan::zero(),
     }
+}
+
+// A state's counts and its phase.
+fn counts_of(state: Intake) -> Counts
+    ensures { λ r. ⌜ r ≡ countsOf state ⌝ }
+{
+    Counts {
+        rows: state.rows,
+        s_words: state.s_words,
+        cells: state.cells,
+        tables: state.tables,
+        table_rows: state.table_rows,
+        phase: state.phase,
+    }
+}
+
+// Every call after opening, each on the counts that the call before it gave back; finishing gets the
+// marks that the rows made.
+fn give_sections(
+    plan: Plan,
+    counts: Counts,
+    marks: Marks,
+    rows: &[u64],
+    s_words: &[u64],
+    cells: &[u64],
+    table_words: &[u64],
+    constants: &mut [u64],
+    copies: &mut [u64],
+    scratch: &mut [u64],
+    tables: &mut [u64],
+)
+    ensures { λ _. ⌜ storeOf (now (constants .exit)) (now (copies .exit)) (now (scratch .exit)) (now (tables .exit)) ≡ chained (calls (now (rows .entry)) (now («s_words» .entry)) (now (cells .entry)) (now («table_words» .entry))) (keeping (withState plan (stateIn counts marks)) (now (constants .entry)) (now (copies .entry)) (now (scratch .entry)) (now (tables .entry))) .store ⌝ }
+{
+    let outline = plan.outline();
+    let gates = plan.gates;
+    let nodes = plan.nodes;
+    let told = take_rows(outline, &gates, &nodes, counts, marks, rows, constants);
+    let used = told.used;
+    let told = take_s_words(outline, &gates, &nodes, told.counts, s_words, constants);
+    let told = take_cells(outline, &gates, &nodes, told.counts, cells, copies, scratch);
+    let told = take_tables(outline, &gates, &nodes, told.counts, table_words, tables);
+    take_finish(outline, &gates, &nodes, told.counts, used, copies, scratch);
 }
 
 // Opening and every later call, each on the state that the call before it gave back, unless one of
@@ -58,11 +110,21 @@ fn run_planned(
         return number;
     }
     let opened = Intake::open(plan, constants, copies, scratch, tables);
-    let with_rows = opened.state.rows(rows, constants);
-    let with_words = with_rows.state.s_words(s_words, constants);
-    let with_cells = with_words.state.cells(cells, copies, scratch);
-    let with_tables = with_cells.state.tables(table_words, tables);
-    with_tables.state.finish(copies, scratch);
+    let state = opened.state;
+    let marks = state.used;
+    give_sections(
+        state.plan,
+        counts_of(state),
+        marks,
+        rows,
+        s_words,
+        cells,
+        table_words,
+        constants,
+        copies,
+        scratch,
+        tables,
+    );
     0
 }
 
