@@ -87,15 +87,11 @@ pub extern "C" fn kinchoyu_rows(state: &mut [u64], piece: &[u64], constants: &mu
     let held = held_at(state);
     if held.fits {
         let used = marks_of(state);
-        let given = take_rows(
-            held.outline,
-            &state[GATES_FROM..COUNT_AT],
-            &state[NODES_FROM..TAIL_FROM],
-            held.counts,
-            used,
-            piece,
-            constants,
-        );
+        let outline = held.outline;
+        let counts = held.counts;
+        let gates = &state[GATES_FROM..COUNT_AT];
+        let nodes = &state[NODES_FROM..TAIL_FROM];
+        let given = take_rows(outline, gates, nodes, counts, used, piece, constants);
         return give_marked_back(given, state);
     }
     19
@@ -110,14 +106,11 @@ pub extern "C" fn kinchoyu_s_words(state: &mut [u64], piece: &[u64], constants: 
 {
     let held = held_at(state);
     if held.fits {
-        let given = take_s_words(
-            held.outline,
-            &state[GATES_FROM..COUNT_AT],
-            &state[NODES_FROM..TAIL_FROM],
-            held.counts,
-            piece,
-            constants,
-        );
+        let outline = held.outline;
+        let counts = held.counts;
+        let gates = &state[GATES_FROM..COUNT_AT];
+        let nodes = &state[NODES_FROM..TAIL_FROM];
+        let given = take_s_words(held.outline, gates, nodes, held.counts, piece, constants);
         return give_back(given, state);
     }
     19
@@ -137,15 +130,11 @@ pub extern "C" fn kinchoyu_cells(
 {
     let held = held_at(state);
     if held.fits {
-        let given = take_cells(
-            held.outline,
-            &state[GATES_FROM..COUNT_AT],
-            &state[NODES_FROM..TAIL_FROM],
-            held.counts,
-            piece,
-            copies,
-            scratch,
-        );
+        let outline = held.outline;
+        let counts = held.counts;
+        let gates = &state[GATES_FROM..COUNT_AT];
+        let nodes = &state[NODES_FROM..TAIL_FROM];
+        let given = take_cells(outline, gates, nodes, counts, piece, copies, scratch);
         return give_back(given, state);
     }
     19
@@ -160,14 +149,11 @@ pub extern "C" fn kinchoyu_tables(state: &mut [u64], piece: &[u64], tables: &mut
 {
     let held = held_at(state);
     if held.fits {
-        let given = take_tables(
-            held.outline,
-            &state[GATES_FROM..COUNT_AT],
-            &state[NODES_FROM..TAIL_FROM],
-            held.counts,
-            piece,
-            tables,
-        );
+        let outline = held.outline;
+        let counts = held.counts;
+        let gates = &state[GATES_FROM..COUNT_AT];
+        let nodes = &state[NODES_FROM..TAIL_FROM];
+        let given = take_tables(held.outline, gates, nodes, held.counts, piece, tables);
         return give_back(given, state);
     }
     19
@@ -183,15 +169,11 @@ pub extern "C" fn kinchoyu_finish(state: &mut [u64], copies: &mut [u64], scratch
     let held = held_at(state);
     if held.fits {
         let used = marks_of(state);
-        let given = take_finish(
-            held.outline,
-            &state[GATES_FROM..COUNT_AT],
-            &state[NODES_FROM..TAIL_FROM],
-            held.counts,
-            used,
-            copies,
-            scratch,
-        );
+        let outline = held.outline;
+        let counts = held.counts;
+        let gates = &state[GATES_FROM..COUNT_AT];
+        let nodes = &state[NODES_FROM..TAIL_FROM];
+        let given = take_finish(outline, gates, nodes, counts, used, copies, scratch);
         return give_back(given, state);
     }
     19

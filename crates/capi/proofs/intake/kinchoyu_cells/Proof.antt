@@ -14,27 +14,27 @@ use Rattle.capi.proofs.intake.kinchoyu_cells.Tie as tie
 held-at-requires : tie.Need-held-at-requires
 held-at-requires c κs = search needs
 
-sub-take-cells : tie.Need-sub-take-cells
-sub-take-cells c = search needs
+sub-gates : tie.Need-sub-gates
+sub-gates c = search needs
 
-part-take-cells-start : tie.Need-part-take-cells-start
-part-take-cells-start c = search needs
+part-gates-start : tie.Need-part-gates-start
+part-gates-start c = search needs
 
 -- the words are as many as a state's
 long : (c : tie.Then1) → length (c .before .before .before .before .before .before .before .args .state .now) ≡ stateLength
 long c = holds (c .before .before .before .before .before .before .before .args .state .now) (c .before .held-at .result) (c .before .held-at .ensures) (c .if1 .taken) .long
 
-part-take-cells-end : tie.Need-part-take-cells-end
-part-take-cells-end c = omega (arith, long (c .before))
+part-gates-end : tie.Need-part-gates-end
+part-gates-end c = omega (arith, long (c .before .before .before))
 
-sub-take-cells-2 : tie.Need-sub-take-cells-2
-sub-take-cells-2 c = search needs
+sub-nodes : tie.Need-sub-nodes
+sub-nodes c = search needs
 
-part-take-cells-start-2 : tie.Need-part-take-cells-start-2
-part-take-cells-start-2 c = search needs
+part-nodes-start : tie.Need-part-nodes-start
+part-nodes-start c = search needs
 
-part-take-cells-end-2 : tie.Need-part-take-cells-end-2
-part-take-cells-end-2 c = omega (arith, long (c .before .before))
+part-nodes-end : tie.Need-part-nodes-end
+part-nodes-end c = omega (arith, long (c .before .before .before .before))
 
 take-cells-requires : tie.Need-take-cells-requires
 take-cells-requires c κs = search needs
@@ -53,9 +53,9 @@ same-length-3 c = search needs
 
 returns : tie.Need-returns
 returns c =
-    let a = c .before .before .before .before .before .before .before .before .before .before .before .before .before .before .before .before .before .before .before .before .before .args in
+    let a = c .before .before .before .before .before .before .before .before .before .before .before .before .before .before .before .before .before .before .before .before .before .before .before .args in
     let b = cols (a .copies .now) (a .scratch .now) in
-    cells-back (a .state .now) (c .before .before .before .before .before .before .before .before .before .before .before .before .before .before .before .held-at .result) (c .before .before .before .before .before .before .before .before .before .before .before .before .before .before .before .held-at .ensures) (c .before .before .before .before .before .before .before .before .before .before .before .before .before .before .if1 .taken) (a .piece .now) b (c .before .before .before .before .before .before .before .before .take-cells .result) _ _ _ (c .before .before .before .before .before .before .before .before .take-cells .ensures .0) (c .before .before .before .before .before .before .before .before .take-cells .ensures .1) (c .before .before .give-back .ensures .0) (c .before .before .give-back .ensures .1)
+    cells-back (a .state .now) (c .before .before .before .before .before .before .before .before .before .before .before .before .before .before .before .before .before .held-at .result) (c .before .before .before .before .before .before .before .before .before .before .before .before .before .before .before .before .before .held-at .ensures) (c .before .before .before .before .before .before .before .before .before .before .before .before .before .before .before .before .if1 .taken) (a .piece .now) b (c .before .before .before .before .before .before .before .before .take-cells .result) _ _ _ (c .before .before .before .before .before .before .before .before .take-cells .ensures .0) (c .before .before .before .before .before .before .before .before .take-cells .ensures .1) (c .before .before .give-back .ensures .0) (c .before .before .give-back .ensures .1)
 
 same-length-4 : tie.Need-same-length-4
 same-length-4 c = search needs
@@ -70,12 +70,12 @@ kinchoyu-cells-spec =
     tie.close
     (tie.spec
     held-at-requires
-    sub-take-cells
-    part-take-cells-start
-    part-take-cells-end
-    sub-take-cells-2
-    part-take-cells-start-2
-    part-take-cells-end-2
+    sub-gates
+    part-gates-start
+    part-gates-end
+    sub-nodes
+    part-nodes-start
+    part-nodes-end
     take-cells-requires
     give-back-requires
     same-length

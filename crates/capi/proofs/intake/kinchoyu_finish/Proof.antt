@@ -17,27 +17,27 @@ held-at-requires c κs = search needs
 marks-of-requires : tie.Need-marks-of-requires
 marks-of-requires c κs = search needs
 
-sub-take-finish : tie.Need-sub-take-finish
-sub-take-finish c = search needs
+sub-gates : tie.Need-sub-gates
+sub-gates c = search needs
 
-part-take-finish-start : tie.Need-part-take-finish-start
-part-take-finish-start c = search needs
+part-gates-start : tie.Need-part-gates-start
+part-gates-start c = search needs
 
 -- the words are as many as a state's
 long : (c : tie.Then1) → length (c .before .before .before .before .before .before .args .state .now) ≡ stateLength
 long c = holds (c .before .before .before .before .before .before .args .state .now) (c .before .held-at .result) (c .before .held-at .ensures) (c .if1 .taken) .long
 
-part-take-finish-end : tie.Need-part-take-finish-end
-part-take-finish-end c = omega (arith, long (c .before .before .before))
+part-gates-end : tie.Need-part-gates-end
+part-gates-end c = omega (arith, long (c .before .before .before .before .before))
 
-sub-take-finish-2 : tie.Need-sub-take-finish-2
-sub-take-finish-2 c = search needs
+sub-nodes : tie.Need-sub-nodes
+sub-nodes c = search needs
 
-part-take-finish-start-2 : tie.Need-part-take-finish-start-2
-part-take-finish-start-2 c = search needs
+part-nodes-start : tie.Need-part-nodes-start
+part-nodes-start c = search needs
 
-part-take-finish-end-2 : tie.Need-part-take-finish-end-2
-part-take-finish-end-2 c = omega (arith, long (c .before .before .before .before))
+part-nodes-end : tie.Need-part-nodes-end
+part-nodes-end c = omega (arith, long (c .before .before .before .before .before .before))
 
 take-finish-requires : tie.Need-take-finish-requires
 take-finish-requires c κs = search needs
@@ -53,9 +53,9 @@ same-length-2 c = search needs
 
 returns : tie.Need-returns
 returns c =
-    let a = c .before .before .before .before .before .before .before .before .before .before .before .before .before .before .before .before .before .before .before .args in
+    let a = c .before .before .before .before .before .before .before .before .before .before .before .before .before .before .before .before .before .before .before .before .before .args in
     let b = cols (a .copies .now) (a .scratch .now) in
-    finish-back (a .state .now) (c .before .before .before .before .before .before .before .before .before .before .before .before .before .before .held-at .result) (c .before .before .before .before .before .before .before .before .before .before .before .before .before .before .held-at .ensures) (c .before .before .before .before .before .before .before .before .before .before .before .before .before .if1 .taken) _ (c .before .before .before .before .before .before .before .before .before .before .before .marks-of .ensures) b (c .before .before .before .before .before .before .take-finish .result) _ _ _ (c .before .before .before .before .before .before .take-finish .ensures .0) (c .before .before .before .before .before .before .take-finish .ensures .1) (c .before .before .give-back .ensures .0) (c .before .before .give-back .ensures .1)
+    finish-back (a .state .now) (c .before .before .before .before .before .before .before .before .before .before .before .before .before .before .before .before .held-at .result) (c .before .before .before .before .before .before .before .before .before .before .before .before .before .before .before .before .held-at .ensures) (c .before .before .before .before .before .before .before .before .before .before .before .before .before .before .before .if1 .taken) _ (c .before .before .before .before .before .before .before .before .before .before .before .before .before .marks-of .ensures) b (c .before .before .before .before .before .before .take-finish .result) _ _ _ (c .before .before .before .before .before .before .take-finish .ensures .0) (c .before .before .before .before .before .before .take-finish .ensures .1) (c .before .before .give-back .ensures .0) (c .before .before .give-back .ensures .1)
 
 same-length-3 : tie.Need-same-length-3
 same-length-3 c = search needs
@@ -71,12 +71,12 @@ kinchoyu-finish-spec =
     (tie.spec
     held-at-requires
     marks-of-requires
-    sub-take-finish
-    part-take-finish-start
-    part-take-finish-end
-    sub-take-finish-2
-    part-take-finish-start-2
-    part-take-finish-end-2
+    sub-gates
+    part-gates-start
+    part-gates-end
+    sub-nodes
+    part-nodes-start
+    part-nodes-end
     take-finish-requires
     give-back-requires
     same-length

@@ -16,27 +16,27 @@ held-at-requires c κs = search needs
 marks-of-requires : tie.Need-marks-of-requires
 marks-of-requires c κs = search needs
 
-sub-take-rows : tie.Need-sub-take-rows
-sub-take-rows c = search needs
+sub-gates : tie.Need-sub-gates
+sub-gates c = search needs
 
-part-take-rows-start : tie.Need-part-take-rows-start
-part-take-rows-start c = search needs
+part-gates-start : tie.Need-part-gates-start
+part-gates-start c = search needs
 
 -- the words are as many as a state's
 long : (c : tie.Then1) → length (c .before .before .before .before .before .before .args .state .now) ≡ stateLength
 long c = holds (c .before .before .before .before .before .before .args .state .now) (c .before .held-at .result) (c .before .held-at .ensures) (c .if1 .taken) .long
 
-part-take-rows-end : tie.Need-part-take-rows-end
-part-take-rows-end c = omega (arith, long (c .before .before .before))
+part-gates-end : tie.Need-part-gates-end
+part-gates-end c = omega (arith, long (c .before .before .before .before .before))
 
-sub-take-rows-2 : tie.Need-sub-take-rows-2
-sub-take-rows-2 c = search needs
+sub-nodes : tie.Need-sub-nodes
+sub-nodes c = search needs
 
-part-take-rows-start-2 : tie.Need-part-take-rows-start-2
-part-take-rows-start-2 c = search needs
+part-nodes-start : tie.Need-part-nodes-start
+part-nodes-start c = search needs
 
-part-take-rows-end-2 : tie.Need-part-take-rows-end-2
-part-take-rows-end-2 c = omega (arith, long (c .before .before .before .before))
+part-nodes-end : tie.Need-part-nodes-end
+part-nodes-end c = omega (arith, long (c .before .before .before .before .before .before))
 
 take-rows-requires : tie.Need-take-rows-requires
 take-rows-requires c κs = search needs
@@ -52,9 +52,9 @@ same-length-2 c = search needs
 
 returns : tie.Need-returns
 returns c =
-    let a = c .before .before .before .before .before .before .before .before .before .before .before .before .before .before .before .before .before .before .before .args in
+    let a = c .before .before .before .before .before .before .before .before .before .before .before .before .before .before .before .before .before .before .before .before .before .args in
     let b = a .constants .now in
-    rows-back (a .state .now) (c .before .before .before .before .before .before .before .before .before .before .before .before .before .before .held-at .result) (c .before .before .before .before .before .before .before .before .before .before .before .before .before .before .held-at .ensures) (c .before .before .before .before .before .before .before .before .before .before .before .before .before .if1 .taken) _ (c .before .before .before .before .before .before .before .before .before .before .before .marks-of .ensures) (a .piece .now) b (c .before .before .before .before .before .before .take-rows .result) _ _ _ (c .before .before .before .before .before .before .take-rows .ensures .0) (c .before .before .before .before .before .before .take-rows .ensures .1) (c .before .before .give-marked-back .ensures .0) (c .before .before .give-marked-back .ensures .1)
+    rows-back (a .state .now) (c .before .before .before .before .before .before .before .before .before .before .before .before .before .before .before .before .held-at .result) (c .before .before .before .before .before .before .before .before .before .before .before .before .before .before .before .before .held-at .ensures) (c .before .before .before .before .before .before .before .before .before .before .before .before .before .before .before .if1 .taken) _ (c .before .before .before .before .before .before .before .before .before .before .before .before .before .marks-of .ensures) (a .piece .now) b (c .before .before .before .before .before .before .take-rows .result) _ _ _ (c .before .before .before .before .before .before .take-rows .ensures .0) (c .before .before .before .before .before .before .take-rows .ensures .1) (c .before .before .give-marked-back .ensures .0) (c .before .before .give-marked-back .ensures .1)
 
 same-length-3 : tie.Need-same-length-3
 same-length-3 c = search needs
@@ -70,12 +70,12 @@ kinchoyu-rows-spec =
     (tie.spec
     held-at-requires
     marks-of-requires
-    sub-take-rows
-    part-take-rows-start
-    part-take-rows-end
-    sub-take-rows-2
-    part-take-rows-start-2
-    part-take-rows-end-2
+    sub-gates
+    part-gates-start
+    part-gates-end
+    sub-nodes
+    part-nodes-start
+    part-nodes-end
     take-rows-requires
     give-marked-back-requires
     same-length

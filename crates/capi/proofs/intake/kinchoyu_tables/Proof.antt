@@ -13,27 +13,27 @@ use Rattle.capi.proofs.intake.kinchoyu_tables.Tie as tie
 held-at-requires : tie.Need-held-at-requires
 held-at-requires c κs = search needs
 
-sub-take-tables : tie.Need-sub-take-tables
-sub-take-tables c = search needs
+sub-gates : tie.Need-sub-gates
+sub-gates c = search needs
 
-part-take-tables-start : tie.Need-part-take-tables-start
-part-take-tables-start c = search needs
+part-gates-start : tie.Need-part-gates-start
+part-gates-start c = search needs
 
 -- the words are as many as a state's
 long : (c : tie.Then1) → length (c .before .before .before .before .before .before .args .state .now) ≡ stateLength
 long c = holds (c .before .before .before .before .before .before .args .state .now) (c .before .held-at .result) (c .before .held-at .ensures) (c .if1 .taken) .long
 
-part-take-tables-end : tie.Need-part-take-tables-end
-part-take-tables-end c = omega (arith, long (c .before))
+part-gates-end : tie.Need-part-gates-end
+part-gates-end c = omega (arith, long (c .before .before .before))
 
-sub-take-tables-2 : tie.Need-sub-take-tables-2
-sub-take-tables-2 c = search needs
+sub-nodes : tie.Need-sub-nodes
+sub-nodes c = search needs
 
-part-take-tables-start-2 : tie.Need-part-take-tables-start-2
-part-take-tables-start-2 c = search needs
+part-nodes-start : tie.Need-part-nodes-start
+part-nodes-start c = search needs
 
-part-take-tables-end-2 : tie.Need-part-take-tables-end-2
-part-take-tables-end-2 c = omega (arith, long (c .before .before))
+part-nodes-end : tie.Need-part-nodes-end
+part-nodes-end c = omega (arith, long (c .before .before .before .before))
 
 take-tables-requires : tie.Need-take-tables-requires
 take-tables-requires c κs = search needs
@@ -49,9 +49,9 @@ same-length-2 c = search needs
 
 returns : tie.Need-returns
 returns c =
-    let a = c .before .before .before .before .before .before .before .before .before .before .before .before .before .before .before .before .before .args in
+    let a = c .before .before .before .before .before .before .before .before .before .before .before .before .before .before .before .before .before .before .before .args in
     let b = a .tables .now in
-    tables-back (a .state .now) (c .before .before .before .before .before .before .before .before .before .before .before .before .held-at .result) (c .before .before .before .before .before .before .before .before .before .before .before .before .held-at .ensures) (c .before .before .before .before .before .before .before .before .before .before .before .if1 .taken) (a .piece .now) b (c .before .before .before .before .before .before .take-tables .result) _ _ _ (c .before .before .before .before .before .before .take-tables .ensures .0) (c .before .before .before .before .before .before .take-tables .ensures .1) (c .before .before .give-back .ensures .0) (c .before .before .give-back .ensures .1)
+    tables-back (a .state .now) (c .before .before .before .before .before .before .before .before .before .before .before .before .before .before .held-at .result) (c .before .before .before .before .before .before .before .before .before .before .before .before .before .before .held-at .ensures) (c .before .before .before .before .before .before .before .before .before .before .before .before .before .if1 .taken) (a .piece .now) b (c .before .before .before .before .before .before .take-tables .result) _ _ _ (c .before .before .before .before .before .before .take-tables .ensures .0) (c .before .before .before .before .before .before .take-tables .ensures .1) (c .before .before .give-back .ensures .0) (c .before .before .give-back .ensures .1)
 
 same-length-3 : tie.Need-same-length-3
 same-length-3 c = search needs
@@ -66,12 +66,12 @@ kinchoyu-tables-spec =
     tie.close
     (tie.spec
     held-at-requires
-    sub-take-tables
-    part-take-tables-start
-    part-take-tables-end
-    sub-take-tables-2
-    part-take-tables-start-2
-    part-take-tables-end-2
+    sub-gates
+    part-gates-start
+    part-gates-end
+    sub-nodes
+    part-nodes-start
+    part-nodes-end
     take-tables-requires
     give-back-requires
     same-length
