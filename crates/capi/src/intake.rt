@@ -110,7 +110,7 @@ pub extern "C" fn kinchoyu_s_words(state: &mut [u64], piece: &[u64], constants: 
         let counts = held.counts;
         let gates = &state[GATES_FROM..COUNT_AT];
         let nodes = &state[NODES_FROM..TAIL_FROM];
-        let given = take_s_words(held.outline, gates, nodes, held.counts, piece, constants);
+        let given = take_s_words(outline, gates, nodes, counts, piece, constants);
         return give_back(given, state);
     }
     19
@@ -153,7 +153,7 @@ pub extern "C" fn kinchoyu_tables(state: &mut [u64], piece: &[u64], tables: &mut
         let counts = held.counts;
         let gates = &state[GATES_FROM..COUNT_AT];
         let nodes = &state[NODES_FROM..TAIL_FROM];
-        let given = take_tables(held.outline, gates, nodes, held.counts, piece, tables);
+        let given = take_tables(outline, gates, nodes, counts, piece, tables);
         return give_back(given, state);
     }
     19
