@@ -175,14 +175,14 @@ pub fn encode_counts(counts: Counts, words: &mut [u64])
     ensures { λ _. ⌜ now (words .exit) ≡ progressed (progressIn counts (marksAt (now (words .entry)))) (now (words .entry)) ⌝ }
 {
     if STATE_WORDS <= words.len() {
-        let five = [
+        let tally = [
             counts.rows,
             counts.s_words,
             counts.cells,
             counts.tables,
             counts.table_rows,
         ];
-        copy_words(&five, COUNTS_FROM, words);
+        copy_words(&tally, COUNTS_FROM, words);
         words[PHASE_AT] = counts.phase;
     }
 }
