@@ -1,12 +1,22 @@
-// The intake: 01's state between calls, by value, and opening. The calls after it are those on a state in parts (take.rt).
+// The intake: 01's state between calls, and the calls, by value. Each call is lent just the buffers that it
+// may write. A refusal hands the state back as it was and writes nothing.
 ghost use mathlib.Core.Path.{_≡_};
+ghost use Rattle.pieces.specs.Setting.{cols};
 ghost use Rattle.pieces.specs.Opening.{startState};
-ghost use Rattle.columns.specs.Intake.{withState, storeOf, refusedWith, openAnswer, openLeft};
+ghost use Rattle.columns.specs.Intake.{withState, storeOf, refusedWith, openAnswer, openLeft, rowsAnswer, rowsLeft, sWordsAnswer, sWordsLeft, cellsAnswer, cellsLeft, tablesAnswer, tablesLeft, finishAnswer, finishLeft};
+ghost use Rattle.columns.specs.Given.{countsOf, counted};
 use crate::opening::clear;
 use crate::rooms::room_number;
 use crate::rooms::rooms_of;
+use crate::take::Counts;
+use crate::take::Given;
 use crate::take::NEVER;
 use crate::take::OPEN;
+use crate::take::take_cells;
+use crate::take::take_finish;
+use crate::take::take_rows;
+use crate::take::take_s_words;
+use crate::take::take_tables;
 use selector::MOST_GATES;
 use selector::Marks;
 use tree::plan::Plan;
@@ -63,6 +73,43 @@ impl Intake {
         self.plan
     }
 
+    // How much came in so far, and the phase.
+    fn counts(self) -> Counts
+        ensures { λ r. ⌜ r ≡ countsOf self ⌝ }
+    {
+        Counts {
+            rows: self.rows,
+            s_words: self.s_words,
+            cells: self.cells,
+            tables: self.tables,
+            table_rows: self.table_rows,
+            phase: self.phase,
+        }
+    }
+
+    // What a call answered, with the plan and the marks of the state that it got.
+    fn after(self, given: Given) -> Taken
+        ensures { λ r. ⌜ r ≡ counted self given ⌝ }
+    {
+        let plan = self.plan;
+        let used = self.used;
+        let counts = given.counts;
+        let state = Intake {
+            plan: plan,
+            rows: counts.rows,
+            s_words: counts.s_words,
+            cells: counts.cells,
+            tables: counts.tables,
+            table_rows: counts.table_rows,
+            used: used,
+            phase: counts.phase,
+        };
+        Taken {
+            number: given.number,
+            state: state,
+        }
+    }
+
     // Opens the columns of a plan: named words zeroed, labels written, words beyond kept. A refusal
     // hands back a state of zeros.
     pub fn open(
@@ -97,5 +144,115 @@ impl Intake {
             number: 0,
             state: Intake::start(plan, OPEN),
         }
+    }
+
+    // Row records: gate, number of constants, constants.
+    pub fn rows(self, piece: &[u64], constants: &mut [u64]) -> Taken
+        ensures { λ r. ⌜ r ≡ rowsAnswer self (now (piece .entry)) (now (constants .entry)) ⌝ }
+        ensures { λ _. ⌜ now (constants .exit) ≡ rowsLeft self (now (piece .entry)) (now (constants .entry)) ⌝ }
+    {
+        let plan = self.plan;
+        let outline = plan.outline();
+        let used = self.used;
+        let told = take_rows(
+            outline,
+            &plan.gates,
+            &plan.nodes,
+            self.counts(),
+            used,
+            piece,
+            constants,
+        );
+        let marks = told.used;
+        let counts = told.counts;
+        let state = Intake {
+            plan: plan,
+            rows: counts.rows,
+            s_words: counts.s_words,
+            cells: counts.cells,
+            tables: counts.tables,
+            table_rows: counts.table_rows,
+            used: marks,
+            phase: counts.phase,
+        };
+        Taken {
+            number: told.number,
+            state: state,
+        }
+    }
+
+    // Words of the specialised constant columns, column by column.
+    pub fn s_words(self, piece: &[u64], constants: &mut [u64]) -> Taken
+        ensures { λ r. ⌜ r ≡ sWordsAnswer self (now (piece .entry)) (now (constants .entry)) ⌝ }
+        ensures { λ _. ⌜ now (constants .exit) ≡ sWordsLeft self (now (piece .entry)) (now (constants .entry)) ⌝ }
+    {
+        let plan = self.plan;
+        let outline = plan.outline();
+        let given = take_s_words(
+            outline,
+            &plan.gates,
+            &plan.nodes,
+            self.counts(),
+            piece,
+            constants,
+        );
+        self.after(given)
+    }
+
+    // Cell words of the copy columns, column by column.
+    pub fn cells(self, piece: &[u64], copies: &mut [u64], scratch: &mut [u64]) -> Taken
+        ensures { λ r. ⌜ r ≡ cellsAnswer self (now (piece .entry)) (cols (now (copies .entry)) (now (scratch .entry))) ⌝ }
+        ensures { λ _. ⌜ cols (now (copies .exit)) (now (scratch .exit)) ≡ cellsLeft self (now (piece .entry)) (cols (now (copies .entry)) (now (scratch .entry))) ⌝ }
+    {
+        let plan = self.plan;
+        let outline = plan.outline();
+        let given = take_cells(
+            outline,
+            &plan.gates,
+            &plan.nodes,
+            self.counts(),
+            piece,
+            copies,
+            scratch,
+        );
+        self.after(given)
+    }
+
+    // Table records: width, rows, contents row by row.
+    pub fn tables(self, piece: &[u64], tables: &mut [u64]) -> Taken
+        ensures { λ r. ⌜ r ≡ tablesAnswer self (now (piece .entry)) (now (tables .entry)) ⌝ }
+        ensures { λ _. ⌜ now (tables .exit) ≡ tablesLeft self (now (piece .entry)) (now (tables .entry)) ⌝ }
+    {
+        let plan = self.plan;
+        let outline = plan.outline();
+        let given = take_tables(
+            outline,
+            &plan.gates,
+            &plan.nodes,
+            self.counts(),
+            piece,
+            tables,
+        );
+        self.after(given)
+    }
+
+    // Finishing: each seen variable's value goes to its first cell.
+    pub fn finish(self, copies: &mut [u64], scratch: &[u64]) -> Taken
+        ensures { λ r. ⌜ r ≡ finishAnswer self (cols (now (copies .entry)) (now (scratch .entry))) ⌝ }
+        ensures { λ _. ⌜ now (copies .exit) ≡ finishLeft self (cols (now (copies .entry)) (now (scratch .entry))) ⌝ }
+    {
+        let plan = self.plan;
+        let outline = plan.outline();
+        let used = self.used;
+        let given = take_finish(
+            outline,
+            &plan.gates,
+            &plan.nodes,
+            self.counts(),
+            used,
+            copies,
+            scratch,
+        );
+        self.after(given)
     }
 }
