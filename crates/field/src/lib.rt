@@ -75,18 +75,11 @@ fn fold(h: u64, l: u64) -> u64
     if s < m { s + EPSILON } else { s }
 }
 
-// A word that is a * b modulo p, for a run of products of which only the last is to be below p.
-fn mul_lazy(a: u64, b: u64) -> u64
-    ensures { λ r. ⌜ r % p ≡ fmul a b ⌝ }
-{
-    fold(high_product(a, b), low_product(a, b))
-}
-
 // a * b.
 pub fn mul(a: u64, b: u64) -> u64
     ensures { λ r. ⌜ r ≡ fmul a b ⌝ }
 {
-    reduce(mul_lazy(a, b))
+    reduce(fold(high_product(a, b), low_product(a, b)))
 }
 
 // base to the power exp, by the exponent's bits from the lowest. Any word to the power 0 is 1.
@@ -98,12 +91,12 @@ pub fn pow(base: u64, exp: u64) -> u64
     let mut e = exp;
     while 0 < e {
         if e % 2 == 1 {
-            r = mul_lazy(r, b);
+            r = mul(r, b);
         }
-        b = mul_lazy(b, b);
+        b = mul(b, b);
         e = e / 2;
     }
-    reduce(r)
+    r
 }
 
 // Whether c is a non-residue: c to the power (p - 1) / 2 is p - 1.
