@@ -3,12 +3,13 @@
 -- The second half of a column is p minus the first, since w to the power of half of N is p - 1.
 --
 -- Main definitions: `rootPower`, `scaledFrom`, `negatedFrom`, `HalfTurn`, `ColumnZero`.
--- Main statements: `generator-root`, `half-turn`; `power-begin`, `power-one`, `power-both`, `powers-more` (as many powers of w again), `label-column` (a label is its column's representative times a word of column 0),
+-- Main statements: `generator-root`, `half-turn`; `power-begin`, `power-next`, `label-column` (a label is its column's representative times a word of column 0),
 -- `label-first` (column 0's labels are the powers of w), `halves`, `power-halves`, `column-next` (one more column), `all-columns`.
 use mathlib.Core.Path.{_≡_, sym, ap, _∙_}
 use mathlib.Core.List.{List}
 use Prim.Native.Nat.{ℕ, zero, suc, _+_, _-_, _*_, _/_, _%_, _^_, _≤_, _<_}
 use native.Mathlib.Nat.{mul-le-mul-right, mul-assoc, zero-add, sub-zero, one-mul, mod-mod, mod-eq-of-lt, div-eq-of-lt, pow-zero, pow-suc}
+use native.Mathlib.Numerals.{add-one}
 use native.Mathlib.Omega.{arith}
 use lib.Arith.{digits-mod, digits-div}
 use lib.Pow.{pow-add}
@@ -16,9 +17,8 @@ use lib.ListN.{length, getD}
 use Rattle.base.specs.Modular.{mod-mul, mul-mod, same-right, minus-one}
 use Rattle.base.specs.Roots.{Root}
 use Rattle.base.specs.Fills.{Filled, filled-join, filled-same}
-use Rattle.field.specs.FieldLaws.{domain-root, fmul-below}
-use Rattle.field.specs.Numerals.{generator-is}
-use Rattle.field.specs.Field.{p, fsub, fmul, fpow, generator, squared}
+use Rattle.field.specs.FieldLaws.{domain-root}
+use Rattle.field.specs.Field.{p, fsub, fmul, fpow}
 use Rattle.base.specs.Exponent.{exponent}
 use Rattle.labels.specs.Ranges.{mostColumns}
 use Rattle.labels.specs.RangesLaws.{Ranges}
@@ -44,7 +44,6 @@ pub record HalfTurn (n : ℕ) : Type 0 where
 
 -- column 0 stands, and there is room for c columns of n rows
 pub record ColumnZero (n c : ℕ) (copies : List ℕ) : Type 0 where
-  pub rows : 1 ≤ n
   pub some : 1 ≤ c
   pub columns : c ≤ mostColumns
   pub room : c * n ≤ length copies
@@ -54,35 +53,9 @@ pub power-begin : (n : ℕ) → 1 ≡ rootPower n 0
 unfolding fpow
 power-begin n = rw pow-zero
 
--- w is a field element
-generator-below : (k a : ℕ) → a < p → squared k a < p
-unfolding squared
-generator-below zero a h = h
-generator-below (suc k) a h = generator-below k (fmul a a) (fmul-below a a)
-
-root-below : generator < p
-root-below = rw generator-is (omega arith)
-
-first-power : (w : ℕ) → w < p → w ≡ w ^ 1 % p
-first-power w h = let e : 1 * w ≡ w = omega arith in sym (ap (λ (k : ℕ). k % p) (pow-suc w 0 ∙ rw pow-zero e) ∙ mod-eq-of-lt h)
-
-pub power-one : (n : ℕ) → domainGenerator n ≡ rootPower n 1
-unfolding fpow domainGenerator
-power-one n = first-power (squared (32 - exponent n) generator) (generator-below (32 - exponent n) generator root-below)
-
--- exponents add
-pub power-both : (n i j : ℕ) → rootPower n (i + j) ≡ fmul (rootPower n i) (rootPower n j)
+pub power-next : (n i : ℕ) → fmul (rootPower n i) (domainGenerator n) ≡ rootPower n (i + 1)
 unfolding fpow
-power-both n i j = rw (mod-mul, mul-mod, pow-add)
-
--- the powers from i on are the first ones times the i-th
-pub powers-more : (n i m : ℕ) (x y : List ℕ) → m ≤ i → ((k : ℕ) → k < i → getD x k 0 ≡ rootPower n k) → Filled (scaledFrom (rootPower n i) i x) i (i + m) x y → Filled (rootPower n) i (i + m) x y
-powers-more n i m x y h first more = filled-same (scaledFrom (rootPower n i) i x) (rootPower n) i (i + m) x y same more
-  where
-    same : (k : ℕ) → i ≤ k → k < i + m → scaledFrom (rootPower n i) i x k ≡ rootPower n k
-    same k l u =
-        let e : i + (k - i) ≡ k = omega arith in
-        ap (fmul (rootPower n i)) (first (k - i) (omega arith)) ∙ sym (power-both n i (k - i)) ∙ ap (rootPower n) e
+power-next n i = rw (mod-mul, add-one, pow-suc)
 
 -- ---- the second half
 pub generator-root : (n c : ℕ) → Ranges n c → Root p (exponent n) (domainGenerator n)

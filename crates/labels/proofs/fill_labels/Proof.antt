@@ -12,7 +12,7 @@ use native.Mathlib.Omega.{arith}
 use lib.ListN.{length}
 use Rattle.base.specs.Fills.{filled-list}
 use Rattle.labels.specs.Ranges.{rangesFit}
-use Rattle.labels.specs.RangesLaws.{Ranges, ranges-fit, some-row, cells-fit}
+use Rattle.labels.specs.RangesLaws.{Ranges, ranges-fit, cells-fit}
 use Rattle.labels.specs.Labels.{representativesNumber, representativesOf, labelOf, fillNumber, labelsWritten}
 use Rattle.labels.specs.Filling.{all-columns, half-turn}
 use Rattle.labels.specs.LabelLaws.{column-zero, fill-number, written-is, written-refused}
@@ -47,7 +47,7 @@ materialize-x-poly-requires : tie.Need-materialize-x-poly-requires
 materialize-x-poly-requires c κs =
     let t = c .before .before .before .before .before in
     let a = c .before .before .before .before .before .before .before .before .before .args in
-    (some-row (a .n) (a .c) (ranges (t .before)), omega (arith, t .if2 .taken, mul-le-mul-right (a .n) (ranges (t .before) .some-column)), half-turn (a .n) (a .c) (ranges (t .before)))
+    (omega (arith, t .if2 .taken, mul-le-mul-right (a .n) (ranges (t .before) .some-column)), half-turn (a .n) (a .c) (ranges (t .before)))
 
 materialize-x-by-non-residue-polys-requires : tie.Need-materialize-x-by-non-residue-polys-requires
 materialize-x-by-non-residue-polys-requires c κs =
@@ -55,7 +55,6 @@ materialize-x-by-non-residue-polys-requires c κs =
     let r = ranges (c .before .before .before .before .before .before .before .before .before .before .before) in
     let first = c .before .before .before .before .materialize-x-poly .ensures in (
       record {
-        rows = some-row (a .n) (a .c) r;
         some = r .some-column;
         columns = r .columns;
         room = omega (arith, c .before .before .before .before .before .before .before .before .before .before .if2 .taken, first .same-length);

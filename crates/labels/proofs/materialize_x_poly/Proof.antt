@@ -20,7 +20,7 @@ same-length c = search needs
 returns : tie.Need-returns
 returns c =
     let s = c .before .before .before .before .before .before .before .before .before in
-    power-halves (s .args .n) (s .args .copies .now) _ _ (s .pre .2) (c .before .before .before .before .before .before .powers .ensures) (c .before .before .negate .ensures)
+    power-halves (s .args .n) (s .args .copies .now) _ _ (s .pre .1) (c .before .before .before .before .before .before .powers .ensures) (c .before .before .negate .ensures)
 
 pub materialize-x-poly-spec : {M : Type 1} → statement M
 materialize-x-poly-spec =
