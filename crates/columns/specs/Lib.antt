@@ -2,6 +2,7 @@
 pub mod Placeable
 pub mod Lines
 pub mod Placed
+pub mod Section
 pub mod Stacked
 pub mod Quick
 pub mod Intake

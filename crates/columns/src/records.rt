@@ -1,49 +1,24 @@
 // What rows, S words and tables have in common: words below p, words in place, lines across columns.
 ghost use mathlib.Core.Path.{_≡_};
-ghost use mathlib.Core.Bool.{true, false};
 ghost use mathlib.Core.List.{List};
 ghost use Prim.Native.Nat.{ℕ, _+_, _*_, _<_, _≤_};
 ghost use lib.ListN.{length, drop, replicate};
 ghost use Rattle.field.specs.Field.{p};
-ghost use Rattle.base.specs.Quarters.{Fourfold};
 ghost use Rattle.pieces.specs.Records.{allBelow};
-ghost use Rattle.pieces.specs.RecordLaws.{Below};
 ghost use Rattle.pieces.specs.Writing.{put, putLines};
 ghost use Rattle.base.specs.Digits.{digits};
 ghost use Rattle.columns.specs.Lines.{strided, cutLines};
 
-// Whether the words at place `at` and one, two and three times `step` behind it are below p.
-fn four_below(words: &[u64], at: usize, step: usize) -> bool
-    requires { ⌜ at + 3 * step < length (now words) ⌝ }
-    ensures { λ r. ⌜ (r ≡ true → Fourfold (Below p (now (words .entry))) step at) ⌝ }
-    ensures { λ r. ⌜ (r ≡ false → allBelow p (now (words .entry)) ≡ false) ⌝ }
-{
-    if field::P <= words[at] {
-        return false;
-    }
-    if field::P <= words[at + step] {
-        return false;
-    }
-    if field::P <= words[at + 2 * step] {
-        return false;
-    }
-    words[at + 3 * step] < field::P
-}
-
-// Whether every word is below p. Four quarters are walked side by side, since the memory brings four
-// streams sooner than one, 0.63 of the time; the last has up to three words more, and the others go as far.
+// Whether every word is below p.
 pub(crate) fn all_below(words: &[u64]) -> bool
     ensures { λ r. ⌜ r ≡ allBelow p (now (words .entry)) ⌝ }
 {
-    let step = words.len() / 4;
-    let turns = words.len() - 3 * step;
     let mut i = 0;
-    while i < turns {
-        if four_below(words, i, step) {
-            i = i + 1;
-        } else {
+    while i < words.len() {
+        if field::P <= words[i] {
             return false;
         }
+        i = i + 1;
     }
     true
 }

@@ -1,81 +1,63 @@
--- `columns::cells::cells_fault` meets its contract. What is left of the piece has the fault of the whole, as long as none was found.
+-- `columns::cells::cells_fault` meets its contract: the words that have room are tested, and then whether there are more.
 -- Assumes nothing.
 use borrow.Author.Needs.{needs}
-use mathlib.Core.Path.{_≡_, refl, sym, _∙_}
+use mathlib.Core.Path.{sym, _∙_}
 use native.Mathlib.Omega.{arith}
-use Prim.Native.Nat.{suc, _-_, _≤_}
-use mathlib.Core.Logic.{_≢_}
-use lib.ListN.{length, getD, drop}
-use Rattle.pieces.specs.Cells.{cellFault, cellsFault}
-use Rattle.pieces.specs.RecordLaws.{first-found, first-done, count-turn}
-use Rattle.pieces.specs.CellLaws.{cell-within}
+use lib.Seq.{length-take-le}
+use Rattle.pieces.specs.Cells.{cellFault}
+use Rattle.columns.specs.Section.{named, section-over, section-within, cells-says}
 use Rattle.columns.proofs.cells.cells_fault.Statement.{statement}
 use Rattle.columns.proofs.cells.cells_fault.Tie as tie
 
-abbrev Inv-loop : tie.InvT-loop
-Inv-loop total vars count piece cell₀ i₀ cell i = (i ≤ length piece) × (cell ≤ total) × (cellsFault total vars count piece ≡ cellsFault total vars cell (drop i piece))
+sub-room : tie.Need-sub-room
+sub-room c = search needs
 
-abbrev μ-loop : tie.MeasureT-loop
-μ-loop total vars count piece cell₀ i₀ cell i = length piece - i
+slice-aggregate-all-named : tie.Need-slice-aggregate-all-named
+slice-aggregate-all-named c = sym (length-take-le _ _ (omega (arith, c .before .if1 .taken)))
 
-loop-holds : tie.Need-loop-holds Inv-loop μ-loop
-loop-holds c = (omega arith, omega arith, refl)
+all-named-requires : tie.Need-all-named-requires
+all-named-requires c κs = search needs
 
-mul-t8 : tie.Need-mul-t8 Inv-loop μ-loop
-mul-t8 c = search needs
-
-shared-slice-read-t11 : tie.Need-shared-slice-read-t11 Inv-loop μ-loop
-shared-slice-read-t11 c = search needs
-
-cell-fault-requires : tie.Need-cell-fault-requires Inv-loop μ-loop
-cell-fault-requires c κs = search needs
-
-returns : tie.Need-returns Inv-loop μ-loop
+returns : tie.Need-returns
 returns c =
-    let l = c .before .before .before .before .loop in
-    let a = c .before .before .before .before .before .before .args in
-    let e = c .before .cell-fault .ensures in
-    let d : cellFault (a .total) (a .vars) (l .cell) (getD (a .piece .now) (l .i) 0) ≢ 0 = λ z. c .if1 .taken (e ∙ z) in
-    e ∙ sym (l .inv .2 ∙ first-found (cellFault (a .total) (a .vars)) (λ k _. suc k) (l .cell) (a .piece .now) (l .i) (omega arith) d)
+    let s = c .before .before .before .before .before in
+    let a = s .args in
+    sym (section-over (cellFault (a .total) (a .vars)) (named (a .vars)) 14 (a .total) (λ z. omega (arith, z)) (cells-says (a .total) (a .vars)) (a .count) (a .piece .now) (s .pre .0) (omega (arith, c .before .before .before .if1 .taken)) _
+    (sym (c .before .all-named .ensures) ∙ c .if2 .taken))
 
-add-cell : tie.Need-add-cell Inv-loop μ-loop
-add-cell c = omega (arith, c .before .before .before .before .loop .inv .1)
-
-add-i : tie.Need-add-i Inv-loop μ-loop
-add-i c = search needs
-
-loop-less : tie.Need-loop-less Inv-loop μ-loop
-loop-less c = search needs
-
-loop-again : tie.Need-loop-again Inv-loop μ-loop
-loop-again c =
-    let l = c .before .before .before .before .loop in
-    let a = c .before .before .before .before .before .before .args in
-    let e : cellFault (a .total) (a .vars) (l .cell) (getD (a .piece .now) (l .i) 0) ≡ 0 = sym (c .before .cell-fault .ensures) ∙ c .if1 .left in (
-      omega arith,
-      omega (arith, cell-within (a .total) (a .vars) (l .cell) (getD (a .piece .now) (l .i) 0) e),
-      l .inv .2 ∙ count-turn (cellFault (a .total) (a .vars)) (l .cell) (a .piece .now) (l .i) (omega arith) e,
-    )
-
-returns-2 : tie.Need-returns-2 Inv-loop μ-loop
+returns-2 : tie.Need-returns-2
 returns-2 c =
-    let l = c .before .loop in
-    let a = c .before .before .before .args in
-    sym (l .inv .2 ∙ first-done (cellFault (a .total) (a .vars)) (λ k _. suc k) (l .cell) (a .piece .now) (l .i) (omega arith))
+    let s = c .before .before .before .before .before in
+    let a = s .args in
+    sym (section-over (cellFault (a .total) (a .vars)) (named (a .vars)) 14 (a .total) (λ z. omega (arith, z)) (cells-says (a .total) (a .vars)) (a .count) (a .piece .now) (s .pre .0) (omega (arith, c .before .before .before .if1 .taken)) _
+    (sym (c .before .all-named .ensures) ∙ c .if2 .left))
+
+all-named-requires-2 : tie.Need-all-named-requires-2
+all-named-requires-2 c κs = search needs
+
+returns-3 : tie.Need-returns-3
+returns-3 c =
+    let s = c .before .before .before .before in
+    let a = s .args in
+    sym (section-within (cellFault (a .total) (a .vars)) (named (a .vars)) 14 (a .total) (λ z. omega (arith, z)) (cells-says (a .total) (a .vars)) (a .count) (a .piece .now) (s .pre .0) (omega (arith, c .before .before .if1 .left)) _
+    (sym (c .before .all-named2 .ensures) ∙ c .if3 .taken))
+
+returns-4 : tie.Need-returns-4
+returns-4 c =
+    let s = c .before .before .before .before in
+    let a = s .args in
+    sym (section-within (cellFault (a .total) (a .vars)) (named (a .vars)) 14 (a .total) (λ z. omega (arith, z)) (cells-says (a .total) (a .vars)) (a .count) (a .piece .now) (s .pre .0) (omega (arith, c .before .before .if1 .left)) _
+    (sym (c .before .all-named2 .ensures) ∙ c .if3 .left))
 
 pub cells-fault-spec : {M : Type 1} → statement M
 cells-fault-spec =
     tie.close
     (tie.spec
-    Inv-loop
-    μ-loop
-    loop-holds
-    mul-t8
-    shared-slice-read-t11
-    cell-fault-requires
+    sub-room
+    slice-aggregate-all-named
+    all-named-requires
     returns
-    add-cell
-    add-i
-    loop-less
-    loop-again
-    returns-2)
+    returns-2
+    all-named-requires-2
+    returns-3
+    returns-4)

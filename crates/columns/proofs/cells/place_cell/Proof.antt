@@ -1,14 +1,14 @@
--- `columns::cells::place_cell` meets its contract: the two ways of a variable as one equation.
+-- `columns::cells::place_cell` meets its contract: one equation for each of the three cases.
 -- Assumes nothing.
 use mathlib.Core.Path.{sym, _∙_}
 use native.Mathlib.Omega.{arith}
+use borrow.Author.Needs.{needs}
 use borrow.Author.Tests.{leb-true, leb-false}
 use Prim.Native.Nat.{_+_, _*_, _<_}
 use lib.ListN.{length, length-set}
 use Rattle.pieces.specs.Setting.{cols}
-use Rattle.pieces.specs.Cells.{placeholder, indexOf}
-use Rattle.pieces.specs.CellLaws.{place-skip, place-chosen}
-use borrow.Author.Needs.{needs}
+use Rattle.pieces.specs.Cells.{placeholder, indexOf, firstSeen, seenAgain}
+use Rattle.pieces.specs.CellLaws.{place-skip, place-first, place-again}
 use Rattle.columns.proofs.cells.place_cell.Statement.{statement}
 use Rattle.columns.proofs.cells.place_cell.Tie as tie
 
@@ -47,23 +47,11 @@ mul-value c = search needs
 slice-read-value : tie.Need-slice-read-value
 slice-read-value c = omega (arith, room (c .before .before .before), c .before .before .as-variable-index .ensures)
 
-add-first : tie.Need-add-first
-add-first c = search needs
-
-mul-first : tie.Need-mul-first
-mul-first c = search needs
-
-slice-read-first : tie.Need-slice-read-first
-slice-read-first c = omega (arith, room (c .before .before .before .before), c .before .before .before .as-variable-index .ensures)
-
 mul-scratch : tie.Need-mul-scratch
 mul-scratch c = search needs
 
 slice-write-scratch : tie.Need-slice-write-scratch
-slice-write-scratch c = omega (arith, room (c .before .before .before .before), c .before .before .before .as-variable-index .ensures)
-
-by-value-requires : tie.Need-by-value-requires
-by-value-requires c κs = search needs
+slice-write-scratch c = omega (arith, room (c .before .before .before), c .before .before .as-variable-index .ensures)
 
 add-scratch : tie.Need-add-scratch
 add-scratch c = search needs
@@ -72,10 +60,7 @@ mul-scratch-2 : tie.Need-mul-scratch-2
 mul-scratch-2 c = search needs
 
 slice-write-scratch-2 : tie.Need-slice-write-scratch-2
-slice-write-scratch-2 c = simp length-set (omega (arith, room (c .before .before .before .before .before), c .before .before .before .before .as-variable-index .ensures))
-
-by-value-requires-2 : tie.Need-by-value-requires-2
-by-value-requires-2 c κs = search needs
+slice-write-scratch-2 c = simp length-set (omega (arith, room (c .before .before .before .before), c .before .before .before .as-variable-index .ensures))
 
 mul-copies : tie.Need-mul-copies
 mul-copies c = search needs
@@ -86,15 +71,25 @@ slice-write-copies c = search needs
 same-length : tie.Need-same-length
 same-length c = search needs
 
+returns-2 : tie.Need-returns-2
+unfolding firstSeen
+returns-2 c =
+    let a = c .before .before .before .before .before .before .before .before .args in
+    let e = c .before .before .before .as-variable-index .ensures in
+    rw e (sym (place-first (a .cell) (a .variable .0) (cols (a .copies .now) (a .scratch .now)) (plain (c .before .before .before .before)) (rw e at (c .if2 .taken))))
+
 same-length-2 : tie.Need-same-length-2
 same-length-2 c = search needs
 
-returns-2 : tie.Need-returns-2
-returns-2 c =
-    let a = c .before .before .before .before .before .before .before .before .before .before .args in
-    let e = c .before .before .before .before .before .as-variable-index .ensures in
-    rw (c .before .by-value .ensures, c .by-value2 .ensures, e)
-    (sym (place-chosen (a .cell) (a .variable .0) (cols (a .copies .now) (a .scratch .now)) (plain (c .before .before .before .before .before .before))))
+same-length-3 : tie.Need-same-length-3
+same-length-3 c = search needs
+
+returns-3 : tie.Need-returns-3
+unfolding seenAgain
+returns-3 c =
+    let a = c .before .before .before .before .before .before .before .before .args in
+    let e = c .before .before .before .as-variable-index .ensures in
+    rw e (sym (place-again (a .cell) (a .variable .0) (cols (a .copies .now) (a .scratch .now)) (plain (c .before .before .before .before)) (rw e at (c .if2 .left))))
 
 pub place-cell-spec : {M : Type 1} → statement M
 place-cell-spec =
@@ -108,18 +103,15 @@ place-cell-spec =
     slice-read-word
     mul-value
     slice-read-value
-    add-first
-    mul-first
-    slice-read-first
     mul-scratch
     slice-write-scratch
-    by-value-requires
     add-scratch
     mul-scratch-2
     slice-write-scratch-2
-    by-value-requires-2
     mul-copies
     slice-write-copies
     same-length
+    returns-2
     same-length-2
-    returns-2)
+    same-length-3
+    returns-3)
