@@ -1,7 +1,6 @@
 // What rows, S words and tables have in common: words below p, words in place, lines across columns.
 ghost use mathlib.Core.Path.{_≡_};
-ghost use mathlib.Core.List.{List};
-ghost use Prim.Native.Nat.{ℕ, _+_, _*_, _<_, _≤_};
+ghost use Prim.Native.Nat.{_+_, _*_, _<_, _≤_};
 ghost use lib.ListN.{length, drop, replicate};
 ghost use Rattle.field.specs.Field.{p};
 ghost use Rattle.pieces.specs.Records.{allBelow};

@@ -1,7 +1,7 @@
 // 01, 'Field': the Goldilocks field, of the words below p = 2^64 - 2^32 + 1. Each public function
 // reads any word modulo p, and its result is below p.
 ghost use mathlib.Core.Path.{_≡_};
-ghost use Prim.Native.Nat.{ℕ, _+_, _*_, _/_, _%_, _^_};
+ghost use Prim.Native.Nat.{_+_, _*_, _/_, _%_, _^_};
 ghost use Rattle.field.specs.Field.{p, fadd, fsub, fmul, fpow, isNonResidue};
 
 pub const P: u64 = 18446744069414584321;

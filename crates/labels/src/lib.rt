@@ -1,7 +1,7 @@
 // 01, 'Labels': the label of a cell is its column's representative times a power of the domain generator.
 ghost use mathlib.Core.Path.{_≡_};
-ghost use Prim.Native.Nat.{ℕ, _+_, _*_, _≤_, _<_};
-ghost use lib.ListN.{length, getD};
+ghost use Prim.Native.Nat.{_+_, _*_, _≤_, _<_};
+ghost use lib.ListN.{length};
 ghost use Rattle.base.specs.Fills.{Filled};
 ghost use Rattle.field.specs.Field.{fpow, isNonResidue};
 ghost use Rattle.labels.specs.Ranges.{rangesFit, mostColumns};

@@ -1,8 +1,8 @@
 -- Laws of cells and of finishing, one equation for each case, and what is left for a loop.
 --
--- Main statements: `place-skip`, `place-first`, `place-again`, `place-chosen`; `run-append` (pieces put end to end); `cell-within`, `cell-fits` (what no fault says); for loops `run-turn`,
+-- Main statements: `place-skip`, `place-first`, `place-again`; `run-append` (pieces put end to end); `cell-within`, `cell-fits` (what no fault says); for loops `run-turn`,
 -- `run-done`, `finish-turn`, `finish-done`, `every-turn`, `every-found`, `every-done`.
-use mathlib.Core.Path.{_≡_, refl, sym, ap, _∙_}
+use mathlib.Core.Path.{_≡_, refl, ap, _∙_}
 use mathlib.Core.Logic.{_≢_}
 use mathlib.Core.Bool.{Bool, true, false}
 use mathlib.Core.List.{List, [], _∷_, _++_}
@@ -12,13 +12,12 @@ use native.Mathlib.Nat.{suc-add, add-suc, add-zero, not-suc-le-zero}
 use native.Mathlib.Decide.{decLt, ℕ-discrete}
 use native.Mathlib.Omega.{arith}
 use lib.ListN.{length, getD, set, drop, length-set}
-use lib.Seq.{getD-set-other, set-getD}
 use lib.Dec.{ltb, eqb}
 use borrow.Author.Tests.{lt-ltb, le-ltb, eq-eqb, ne-eqb, ltb-true}
 use Rattle.base.specs.Pick.{pick, both-true}
 use Rattle.base.specs.Drops.{drop-none, drop-one}
 use Rattle.field.specs.Field.{p}
-use Rattle.pieces.specs.Setting.{Cols, cols}
+use Rattle.pieces.specs.Setting.{Cols}
 use Rattle.pieces.specs.Cells.{placeholder, indexOf, cellFault, cellsFault, value, firstSeen, seenAgain, placeCell, cellsRun}
 use Rattle.pieces.specs.Finishing.{everyFrom, variableFine, writeBack, finishFrom}
 use Rattle.pieces.specs.RecordLaws.{fault-head}
@@ -39,30 +38,6 @@ place-first k w s h e = rw (lt-ltb w placeholder h, eq-eqb (value s (indexOf w))
 pub place-again : (k w : ℕ) (s : Cols) → w < placeholder → value s (indexOf w) ≢ 0 → placeCell k w s ≡ seenAgain k (indexOf w) s
 unfolding placeCell
 place-again k w s h e = rw (lt-ltb w placeholder h, ne-eqb (value s (indexOf w)) 0 e)
-
--- the last two as one: each word is written, by a choice
-module _ (k w : ℕ) (s : Cols) where
-  abbrev v : ℕ
-  v = indexOf w
-
-  abbrev word : ℕ
-  word = getD (s .copies) k 0
-
-  -- a first cell that is written as it stands
-  first-kept : set (set (s .scratch) (2 * v) word) (2 * v + 1) (first s v) ≡ set (s .scratch) (2 * v) word
-  first-kept =
-      ap (set (set (s .scratch) (2 * v) word) (2 * v + 1)) (sym (getD-set-other (s .scratch) (2 * v) (2 * v + 1) word 0 (λ z. omega (arith, z))))
-      ∙ set-getD (set (s .scratch) (2 * v) word) (2 * v + 1) 0
-
-  pub place-chosen : w < placeholder
-      → placeCell k w s ≡ cols (set (s .copies) k (pick (eqb (value s v) 0) word (value s v))) (set (set (s .scratch) (2 * v) word) (2 * v + 1) (pick (eqb (value s v) 0) k (first s v)))
-  unfolding placeCell firstSeen seenAgain
-  place-chosen h = rw (lt-ltb w placeholder h) (go (eqb (value s v) 0))
-    where
-      go : (t : Bool) → pick t (cols (s .copies) (set (set (s .scratch) (2 * v) word) (2 * v + 1) k)) (cols (set (s .copies) k (value s v)) (set (s .scratch) (2 * v) word))
-          ≡ cols (set (s .copies) k (pick t word (value s v))) (set (set (s .scratch) (2 * v) word) (2 * v + 1) (pick t k (first s v)))
-      go true = ap (λ (l : List ℕ). cols l (set (set (s .scratch) (2 * v) word) (2 * v + 1) k)) (sym (set-getD (s .copies) k 0))
-      go false = ap (cols (set (s .copies) k (value s v))) (sym first-kept)
 
 -- ---- pieces put end to end
 pub run-append : (k : ℕ) (xs ys : List ℕ) (s : Cols) → cellsRun k (xs ++ ys) s ≡ cellsRun (k + length xs) ys (cellsRun k xs s)
@@ -106,17 +81,9 @@ module _ (total vars k w : ℕ) where
   unfolding cellFault
   cell-past h = rw (le-ltb k total h)
 
-  pub cell-still : k < total → placeholder ≤ w → cellFault total vars k w ≡ 0
-  unfolding cellFault
-  cell-still h p = rw (lt-ltb k total h, le-ltb w placeholder p)
-
   pub cell-wide : k < total → w < placeholder → vars ≤ indexOf w → cellFault total vars k w ≡ 14
   unfolding cellFault
   cell-wide h p q = rw (lt-ltb k total h, lt-ltb w placeholder p, le-ltb (indexOf w) vars q)
-
-  pub cell-good : k < total → w < placeholder → indexOf w < vars → cellFault total vars k w ≡ 0
-  unfolding cellFault
-  cell-good h p q = rw (lt-ltb k total h, lt-ltb w placeholder p, lt-ltb (indexOf w) vars q)
 
   -- what no fault says
   pub cell-within : cellFault total vars k w ≡ 0 → k < total

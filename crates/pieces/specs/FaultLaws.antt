@@ -107,18 +107,6 @@ rows-alike a b e N r ts = first-same (rowFault a N) (rowFault b N) (λ r _. suc 
 
 -- ---- S words
 module _ (total k w : ℕ) where
-  pub word-past : total ≤ k → sWordFault total k w ≡ 13
-  unfolding sWordFault
-  word-past h = rw (le-ltb k total h)
-
-  pub word-large : k < total → p ≤ w → sWordFault total k w ≡ 11
-  unfolding sWordFault
-  word-large h l = rw (lt-ltb k total h, le-ltb w p l)
-
-  pub word-good : k < total → w < p → sWordFault total k w ≡ 0
-  unfolding sWordFault
-  word-good h l = rw (lt-ltb k total h, lt-ltb w p l)
-
   pub word-fine : sWordFault total k w ≡ 0 → (k < total) × (w < p)
   unfolding sWordFault
   word-fine e =

@@ -1,25 +1,24 @@
 -- Laws of records and of the first faulty one.
 --
 -- Main definitions: `Whole`, `Sized`, `Rest` (the records that a loop has still to read).
--- Main statements: `fault-head`, `fault-each` (what no fault says), `read-append` (pieces put end to end), and for loops `first-turn`, `count-turn`, `first-found`, `first-done`,
--- `rest-begin`, `rest-whole`, `rest-cut`, `rest-done`, `rest-front`; `below-all`, `below-each`, `below-not`.
+-- Main statements: `fault-head`, `fault-each` (what no fault says), `read-append` (pieces put end to end), and for loops `rest-begin`, `rest-whole`,
+-- `rest-cut`, `rest-done`, `rest-front`.
 use mathlib.Core.Path.{_≡_, refl, sym, ap, _∙_}
 use mathlib.Core.Logic.{_≢_}
-use mathlib.Core.Bool.{Bool, true, false}
+use mathlib.Core.Bool.{true, false}
 use mathlib.Core.List.{List, [], _∷_, _++_}
 use Prim.Native.Nat.{ℕ, zero, suc, _+_, _-_, _≤_, _<_}
-use native.Mathlib.Nat.{not-suc-le-zero, le-of-suc-le-suc}
-use native.Mathlib.Numerals.{add-one}
+use native.Mathlib.Nat.{not-suc-le-zero}
 use native.Mathlib.Decide.{ℕ-discrete, decLe, decLt}
 use native.Mathlib.Omega.{arith}
 use lib.ListN.{length, getD, take, drop, length-drop, length-append}
 use lib.Seq.{length-take-le, drop-append-le, take-append-le, drop-drop, getD-drop}
-use lib.Dec.{ltb, leb}
-use borrow.Author.Tests.{lt-ltb, le-leb, lt-leb, ltb-true, eq-eqb, ne-eqb}
-use Rattle.base.specs.Pick.{pick, both-true}
+use lib.Dec.{leb}
+use borrow.Author.Tests.{le-leb, lt-leb, eq-eqb, ne-eqb}
+use Rattle.base.specs.Pick.{pick}
 use Rattle.base.specs.Each.{Each}
-use Rattle.base.specs.Drops.{drop-none, drop-one, drop-two, drop-last}
-use Rattle.pieces.specs.Records.{Read, whole, cut, readBy, firstFault, allBelow}
+use Rattle.base.specs.Drops.{drop-none, drop-two, drop-last}
+use Rattle.pieces.specs.Records.{Read, whole, cut, readBy, firstFault}
 use Rattle.pieces.specs.Front.{front}
 
 -- what no fault says of each
@@ -115,48 +114,6 @@ module _ (size : ℕ → ℕ → ℕ) where
       go (no h) q r =
           let t : leb n (length xs) ≡ false = lt-leb n (length xs) (omega arith) in
           let q' = rw t at q in absurd (q' .0)
-
--- ---- a loop over words that looks for the first fault
-module _ {S : Type 0} (fault : S → ℕ → ℕ) (next : S → ℕ → S) (s : S) (ws : List ℕ) (i : ℕ) where
-  pub first-turn : i < length ws → fault s (getD ws i 0) ≡ 0 → firstFault fault next s (drop i ws) ≡ firstFault fault next (next s (getD ws i 0)) (drop (i + 1) ws)
-  unfolding firstFault
-  first-turn h e = ap (firstFault fault next s) (drop-one ws i h) ∙ rw (eq-eqb (fault s (getD ws i 0)) 0 e)
-
-  pub first-found : i < length ws → fault s (getD ws i 0) ≢ 0 → firstFault fault next s (drop i ws) ≡ fault s (getD ws i 0)
-  unfolding firstFault
-  first-found h d = ap (firstFault fault next s) (drop-one ws i h) ∙ rw (ne-eqb (fault s (getD ws i 0)) 0 d)
-
-  pub first-done : length ws ≤ i → firstFault fault next s (drop i ws) ≡ 0
-  unfolding firstFault
-  first-done h = ap (firstFault fault next s) (drop-none ws i h)
-
--- the same for words that are counted from k on
-pub count-turn : (fault : ℕ → ℕ → ℕ) (k : ℕ) (ws : List ℕ) (i : ℕ) → i < length ws → fault k (getD ws i 0) ≡ 0
-    → firstFault fault (λ k _. suc k) k (drop i ws) ≡ firstFault fault (λ k _. suc k) (k + 1) (drop (i + 1) ws)
-count-turn fault k ws i h e = rw add-one (first-turn fault (λ k _. suc k) k ws i h e)
-
--- ---- words that are below n, and one that is not
--- the word at place j is below n
-abbrev pub Below : ℕ → List ℕ → ℕ → Type 0
-Below n ws j = getD ws j 0 < n
-
-pub below-all : (n : ℕ) (ws : List ℕ) → ((j : ℕ) → j < length ws → Below n ws j) → allBelow n ws ≡ true
-unfolding allBelow
-below-all n [] h = refl
-below-all n (w ∷ ws) h = rw (lt-ltb w n (h 0 (omega arith))) (below-all n ws (λ j l. h (suc j) (omega arith)))
-
-below-each : (n : ℕ) (ws : List ℕ) → allBelow n ws ≡ true → (j : ℕ) → j < length ws → Below n ws j
-unfolding allBelow
-below-each n [] e j l = absurd (not-suc-le-zero l)
-below-each n (w ∷ ws) e zero l = ltb-true w n (both-true (ltb w n) (allBelow n ws) e .0)
-below-each n (w ∷ ws) e (suc j) l = below-each n ws (both-true (ltb w n) (allBelow n ws) e .1) j (le-of-suc-le-suc l)
-
-pub below-not : (n : ℕ) (ws : List ℕ) (j : ℕ) → j < length ws → n ≤ getD ws j 0 → allBelow n ws ≡ false
-below-not n ws j l h = go (allBelow n ws) refl
-  where
-    go : (b : Bool) → allBelow n ws ≡ b → allBelow n ws ≡ false
-    go true e = absurd (omega (arith, below-each n ws e j l))
-    go false e = e
 
 -- ---- a loop over records: those from the word i on. The turns stand in no variable of the code
 pub record Rest (size : ℕ → ℕ → ℕ) (ws : List ℕ) (i : ℕ) (rs : List Read) : Type 0 where

@@ -4,7 +4,7 @@ use borrow.Author.Needs.{needs}
 use mathlib.Core.Path.{_≡_, refl, sym, _∙_}
 use native.Mathlib.Omega.{arith}
 use Prim.Native.Nat.{_-_, _≤_}
-use lib.ListN.{length, getD, drop}
+use lib.ListN.{length, drop}
 use Rattle.columns.specs.Section.{allOf, named, all-turn, all-found, all-done}
 use Rattle.columns.proofs.cells.all_named.Statement.{statement}
 use Rattle.columns.proofs.cells.all_named.Tie as tie
