@@ -3,7 +3,6 @@ pub mod Placeable
 pub mod Lines
 pub mod Placed
 pub mod Stacked
-pub mod Quick
 pub mod Intake
 pub mod Given
 pub mod Rooms
