@@ -4,7 +4,6 @@ pub mod Lines
 pub mod Placed
 pub mod Section
 pub mod Stacked
-pub mod Quick
 pub mod Intake
 pub mod Given
 pub mod Rooms

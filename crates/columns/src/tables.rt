@@ -1,7 +1,7 @@
 // Lookup tables: stacked, each row with its table's number.
 ghost use mathlib.Core.Path.{_≡_};
 ghost use mathlib.Core.Bool.{true};
-ghost use Prim.Native.Nat.{_+_, _-_, _*_, _≤_};
+ghost use Prim.Native.Nat.{_+_, _*_, _≤_};
 ghost use lib.ListN.{length};
 ghost use Rattle.pieces.specs.Records.{tableSize, tablesOf};
 ghost use Rattle.pieces.specs.Front.{front};
@@ -13,9 +13,6 @@ use crate::records::write_lines;
 use crate::records::write_same;
 
 pub const MOST_TABLES: u64 = 255;
-
-// Rows of a table that are written together: at the most 16 words each, 32 KB.
-const BLOCK: usize = 256;
 
 // The number of the record at the front of the words, 0 where it has no fault: after `count`
 // tables of `high` rows in all.
@@ -78,37 +75,7 @@ pub(crate) fn tables_fault(
     0
 }
 
-// Rows of one table, from the row `high` on: their words, then a column of its number.
-fn write_block(
-    width: usize,
-    trace: usize,
-    number: u64,
-    high: usize,
-    rows: usize,
-    words: &[u64],
-    tables: &mut [u64],
-)
-    requires { ⌜ (width ≤ 16) × (trace ≤ 65536) × (high + rows ≤ trace) × (width * rows ≤ length (now words)) ⌝ }
-    requires { ⌜ (width + 1) * trace ≤ length (now tables) ⌝ }
-    ensures { λ _. ⌜ now (tables .exit) ≡ putLines (width + 1) trace high (entries width number rows (now (words .entry))) (now (tables .entry)) ⌝ }
-{
-    write_lines(width, width, trace, high, rows, words, tables);
-    write_same(number, high + width * trace, rows as u64, tables);
-}
-
-// How many of the rows that are left make up the next block.
-fn block_rows(left: usize) -> usize
-    ensures { λ r. ⌜ r ≡ 256 - (256 - left) ⌝ }
-{
-    if left < BLOCK {
-        return left;
-    }
-    BLOCK
-}
-
-// The rows of one table, from the row `high` on, in blocks: their words stay in the first cache
-// while the block's columns are written one after the other. A row takes 0.6 of the time with 5 columns,
-// 0.2 with 13.
+// The rows of one table, from the row `high` on: their words, then a column of its number.
 fn write_table(
     width: usize,
     trace: usize,
@@ -122,21 +89,8 @@ fn write_table(
     requires { ⌜ (width + 1) * trace ≤ length (now tables) ⌝ }
     ensures { λ _. ⌜ now (tables .exit) ≡ putLines (width + 1) trace high (entries width number rows (now (words .entry))) (now (tables .entry)) ⌝ }
 {
-    let mut j = 0;
-    while j < rows {
-        let many = block_rows(rows - j);
-        let start = width * j;
-        write_block(
-            width,
-            trace,
-            number,
-            high + j,
-            many,
-            &words[start..],
-            tables,
-        );
-        j = j + many;
-    }
+    write_lines(width, width, trace, high, rows, words, tables);
+    write_same(number, high + width * trace, rows as u64, tables);
 }
 
 // How many tables there are, and their rows in all.
