@@ -9,7 +9,6 @@ pub mod Modular
 pub mod Powers
 pub mod Roots
 pub mod Fills
-pub mod Quarters
 pub mod Cosets
 pub mod Each
 pub mod Digits

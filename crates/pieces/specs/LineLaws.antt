@@ -3,10 +3,9 @@
 -- Main statements: `lines-through` (lines put end to end), and for loops `marks-turn`, `tables-turn`, `sum-turn`.
 use mathlib.Core.Path.{_≡_, refl, ap, _∙_}
 use mathlib.Core.List.{List, [], _∷_, _++_}
-use Prim.Native.Nat.{ℕ, suc, _+_, _-_, _≤_}
+use Prim.Native.Nat.{ℕ, suc, _+_, _-_}
 use native.Mathlib.Nat.{add-zero, add-suc, suc-add}
 use native.Mathlib.Numerals.{add-one}
-use native.Mathlib.Omega.{arith}
 use lib.ListN.{length, set}
 use Rattle.pieces.specs.Records.{Read, whole}
 use Rattle.pieces.specs.Writing.{put, padded, putLines}
@@ -26,11 +25,6 @@ marks-turn u g n cs ts = refl
 pub marks-done : (u : List ℕ) → marked u [] ≡ u
 unfolding marked
 marks-done u = refl
-
--- ---- entries of one table
-pub entries-done : (W N t r n j : ℕ) (cs b : List ℕ) → n ≤ j → putLines (W + 1) N r (entries W t (n - j) cs) b ≡ b
-unfolding putLines entries
-entries-done W N t r n j cs b h = let e : n - j ≡ 0 = omega arith in rw e
 
 -- ---- lines put end to end
 pub lines-through : (k N r : ℕ) (xs ys : List (List ℕ)) (b : List ℕ) → putLines k N r (xs ++ ys) b ≡ putLines k N (r + length xs) ys (putLines k N r xs b)
