@@ -34,7 +34,7 @@ fn all_named(vars: u64, words: &[u64]) -> bool
 }
 
 // The number of the first faulty word of a piece: 14 where one of those that have room is faulty, else 13 where there are
-// more. All that have room are tested before any number is sought, 0.95 of a whole circuit's time.
+// more.
 pub(crate) fn cells_fault(total: u64, vars: u64, count: u64, piece: &[u64]) -> u64
     requires { ⌜ (count ≤ total) × (total ≤ 4294967296) ⌝ }
     ensures { λ r. ⌜ r ≡ cellsFault total vars count (now (piece .entry)) ⌝ }

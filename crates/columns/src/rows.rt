@@ -77,7 +77,7 @@ fn stage_rows(
 
 // The records of a piece without a fault, in the rows from `count` on: 32 at a time, which are
 // staged as lines and then written column by column, a few lines of the cache in each. A whole
-// circuit takes 0.91 of the time.
+// circuit takes 0.95 of the time, 0.92 from 1,024 rows on.
 pub(crate) fn write_rows(
     height: u64,
     trace: u64,

@@ -196,7 +196,7 @@ fn materialize_x_by_non_residue(k: u64, at: usize, n: usize, copies: &mut [u64])
 }
 
 // The second half of a column that starts at `at`: each word is p minus the one `half` places
-// before it, since w to the power of half of N is p - 1. A whole circuit takes 0.94 of the time
+// before it, since w to the power of half of N is p - 1. A whole circuit takes 0.95 of the time
 // of products.
 fn negate(at: usize, half: usize, rest: usize, copies: &mut [u64])
     requires { ⌜ (rest ≤ half) × (at + half + rest ≤ length (now copies)) ⌝ }
