@@ -106,15 +106,15 @@ refused-number = ap (λ (a : Taken). a .number) (claim two nop (old 1 5 3) [] .a
 refused-left : left (rows (1 ∷ 0 ∷ [])) k₉ ≡ k₉ .store
 refused-left = claim two nop (old 1 5 3) [] .answers (rows (1 ∷ 0 ∷ [])) k₉ .refused (λ e. omega (arith, e, unlisted)) .1
 
-two-more : (k : Kept) → k .state .rows ≡ 0 → taken (settingOf (k .state .plan)) (rows (0 ∷ 0 ∷ 0 ∷ 0 ∷ [])) (heldOf k) .state .rowCount ≡ 2
+two-more : (k : Kept) → k .state .counts .rows ≡ 0 → taken (settingOf (k .state .plan)) (rows (0 ∷ 0 ∷ 0 ∷ 0 ∷ [])) (heldOf k) .state .rowCount ≡ 2
 unfolding readBy rowsOf taken
 two-more k z = rw z
 
-taken-rows : answer (rows (0 ∷ 0 ∷ 0 ∷ 0 ∷ [])) k₉ .state .rows ≡ 2
+taken-rows : answer (rows (0 ∷ 0 ∷ 0 ∷ 0 ∷ [])) k₉ .state .counts .rows ≡ 2
 unfolding run
 taken-rows =
-    ap (λ (a : Taken). a .state .rows) (claim two nop (old 1 5 3) [] .answers (rows (0 ∷ 0 ∷ 0 ∷ 0 ∷ [])) k₉ .taken (number₉ (rows (0 ∷ 0 ∷ 0 ∷ 0 ∷ [])) ∙ both-rows₉) .0)
-    ∙ two-more k₉ (ap (λ (k : Kept). k .state .rows) (kept₉ []))
+    ap (λ (a : Taken). a .state .counts .rows) (claim two nop (old 1 5 3) [] .answers (rows (0 ∷ 0 ∷ 0 ∷ 0 ∷ [])) k₉ .taken (number₉ (rows (0 ∷ 0 ∷ 0 ∷ 0 ∷ [])) ∙ both-rows₉) .0)
+    ∙ two-more k₉ (ap (λ (k : Kept). k .state .counts .rows) (kept₉ []))
 
 -- ---- what the claim says of these
 pub record SaidOfCalls : Type 0 where
@@ -130,7 +130,7 @@ pub record SaidOfCalls : Type 0 where
   -- a row of a gate that is not listed is 12, and no word is written; two rows of the listed one are counted
   pub rows-12 : answer (rows (1 ∷ 0 ∷ [])) k₉ .number ≡ 12
   pub nothing-written : left (rows (1 ∷ 0 ∷ [])) k₉ ≡ k₉ .store
-  pub rows-counted : answer (rows (0 ∷ 0 ∷ 0 ∷ 0 ∷ [])) k₉ .state .rows ≡ 2
+  pub rows-counted : answer (rows (0 ∷ 0 ∷ 0 ∷ 0 ∷ [])) k₉ .state .counts .rows ≡ 2
   -- after refused planning the whole of P9's list leaves the buffers as they were, and a finishing is 19
   pub untouched : kept odd nop (old 1 5 3) p9-calls .store ≡ old 1 5 3
   pub finishing-19 : answer finishing (kept odd nop (old 1 5 3) p9-calls) .number ≡ 19

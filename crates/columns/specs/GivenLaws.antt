@@ -16,11 +16,10 @@ use Rattle.pieces.specs.SWords.{sWordsNumber, sWordsWritten, sWordsState}
 use Rattle.pieces.specs.Cells.{cellsNumber, cellsState}
 use Rattle.pieces.specs.Tables.{tablesNumber, tablesWritten, tablesState}
 use Rattle.pieces.specs.Finishing.{finishNumber, finishedState}
-use Rattle.columns.specs.Intake.{answered, settingOf, withState, stateOf, rowsAnswer, sWordsAnswer, sWordsLeft, cellsAnswer, cellsLeft, tablesAnswer, tablesLeft, finishAnswer}
-use Rattle.columns.specs.Given.{stateIn, countsOf, givenOf, markedOf, counted, remarked}
+use Rattle.columns.specs.Intake.{stateIn, countsIn, answered, settingOf, withState, stateOf, rowsAnswer, sWordsAnswer, sWordsLeft, cellsAnswer, cellsLeft, tablesAnswer, tablesLeft, finishAnswer}
+use Rattle.columns.specs.Given.{givenOf, markedOf, counted, remarked}
 use Rattle.columns.specs.Rooms.{Small}
 use Rattle.columns.specs.declared.intake.Intake.{Intake}
-use Rattle.columns.specs.declared.intake.Taken.{Taken}
 use Rattle.columns.specs.declared.take.Counts.{Counts}
 
 -- the numbers of a plan without a fault are small
@@ -38,17 +37,17 @@ small o gs ns e =
 
 -- a state without its marks
 abbrev pub bare : Intake → Intake
-bare s = withState (s .plan) (stateIn (countsOf s) [])
+bare s = withState (s .plan) (stateIn (s .counts) [])
 
 -- an answer of the same number, with counts that do not depend on the marks
-counted-answer : (s : Intake) (n : ℕ) (t u : State) → countsOf (withState (s .plan) t) ≡ countsOf (withState (s .plan) u) → u .used ≡ s .used
+counted-answer : (s : Intake) (n : ℕ) (t u : State) → countsIn t ≡ countsIn u → u .used ≡ s .used
     → counted s (givenOf (answered n (bare s) t)) ≡ answered n s u
 counted-answer s n t u e d = by (eqb n 0)
   where
     by : (b : Bool) → counted s (givenOf (pick b (record { number = 0; state = withState (s .plan) t }) (record { number = n; state = bare s }))) ≡ pick b (record { number = 0; state = withState (s .plan) u }) (record { number = n; state = s })
     by true =
         ap (λ (k : Counts). record { number = 0; state = withState (s .plan) (stateIn k (s .used)) }) e
-        ∙ ap (λ (us : List ℕ). record { number = 0; state = withState (s .plan) (stateIn (countsOf (withState (s .plan) u)) us) }) (sym d)
+        ∙ ap (λ (us : List ℕ). record { number = 0; state = withState (s .plan) (stateIn (countsIn u) us) }) (sym d)
     by false = refl
 
 module _ (s : Intake) (ws : List ℕ) where

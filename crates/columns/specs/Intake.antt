@@ -1,6 +1,6 @@
 -- What the code's plan and state mean in the definitions of `pieces`, and what each public call answers and leaves.
 --
--- Main definitions: `settingOf`, `stateOf`, `withState`; `openAnswer`, `openLeft`, `rowsAnswer`, `rowsLeft`, `sWordsAnswer`, `sWordsLeft`, `cellsAnswer`, `cellsLeft`,
+-- Main definitions: `settingOf`, `stateIn`, `countsIn`, `stateOf`, `withState`; `openAnswer`, `openLeft`, `rowsAnswer`, `rowsLeft`, `sWordsAnswer`, `sWordsLeft`, `cellsAnswer`, `cellsLeft`,
 -- `tablesAnswer`, `tablesLeft`, `finishAnswer`, `finishLeft`.
 use mathlib.Core.List.{List}
 use Prim.Native.Nat.{ℕ, _*_}
@@ -20,6 +20,7 @@ use Rattle.pieces.specs.Tables.{tablesNumber, tablesWritten, tablesState}
 use Rattle.pieces.specs.Finishing.{finishNumber, finishedCopies, finishedState}
 use Rattle.columns.specs.declared.intake.Intake.{Intake}
 use Rattle.columns.specs.declared.intake.Taken.{Taken}
+use Rattle.columns.specs.declared.take.Counts.{Counts}
 
 -- the labels of all copy cells, column by column
 abbrev pub labelsOf : ℕ → ℕ → List ℕ
@@ -45,31 +46,36 @@ settingOf q =
       labels = labelsOf (q .trace) (q .copy);
     }
 
--- the code's state without its plan, and with it
-abbrev pub stateOf : Intake → State
-stateOf s =
+-- 01's state of counts and marks, and the counts of it
+abbrev pub stateIn : Counts → List ℕ → State
+stateIn k us =
     record {
-      rowCount = s .rows;
-      wordCount = s .«s_words»;
-      cellCount = s .cells;
-      tableCount = s .tables;
-      stacked = s .«table_rows»;
-      used = s .used;
-      phase = s .phase;
+      rowCount = k .rows;
+      wordCount = k .«s_words»;
+      cellCount = k .cells;
+      tableCount = k .tables;
+      stacked = k .«table_rows»;
+      used = us;
+      phase = k .phase;
     }
 
-abbrev pub withState : Plan → State → Intake
-withState q s =
+abbrev pub countsIn : State → Counts
+countsIn s =
     record {
-      plan = q;
       rows = s .rowCount;
       «s_words» = s .wordCount;
       cells = s .cellCount;
       tables = s .tableCount;
       «table_rows» = s .stacked;
-      used = s .used;
       phase = s .phase;
     }
+
+-- the code's state without its plan, and with it
+abbrev pub stateOf : Intake → State
+stateOf s = stateIn (s .counts) (s .used)
+
+abbrev pub withState : Plan → State → Intake
+withState q s = record { plan = q; counts = countsIn s; used = s .used }
 
 -- "a .. state of zeros, which counts as never opened"
 abbrev pub zeroIntake : Intake

@@ -37,13 +37,13 @@ module _ (s : Intake) where
   falls-plan d = rw (ne-eqb (planFault (s .plan)) 0 d)
 
   module _ (e : planFault (s .plan) ≡ 0) where
-    pub falls-phase : s .phase ≢ isOpened → stands (settingOf (s .plan)) (stateOf s) ≡ false
+    pub falls-phase : s .counts .phase ≢ isOpened → stands (settingOf (s .plan)) (stateOf s) ≡ false
     unfolding stands
-    falls-phase d = rw (eq-eqb (planFault (s .plan)) 0 e, ne-eqb (s .phase) isOpened d)
+    falls-phase d = rw (eq-eqb (planFault (s .plan)) 0 e, ne-eqb (s .counts .phase) isOpened d)
 
-    pub stands-counts : s .phase ≡ isOpened → stands (settingOf (s .plan)) (stateOf s) ≡ countsFit (settingOf (s .plan)) (stateOf s)
+    pub stands-counts : s .counts .phase ≡ isOpened → stands (settingOf (s .plan)) (stateOf s) ≡ countsFit (settingOf (s .plan)) (stateOf s)
     unfolding stands
-    stands-counts o = rw (eq-eqb (planFault (s .plan)) 0 e, eq-eqb (s .phase) isOpened o)
+    stands-counts o = rw (eq-eqb (planFault (s .plan)) 0 e, eq-eqb (s .counts .phase) isOpened o)
 
 -- ---- an answer, by its number
 refused-answer : (n : ℕ) (s : Intake) (t : State) → n ≢ 0 → refusedWith n s ≡ answered n s t

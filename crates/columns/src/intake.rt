@@ -4,7 +4,7 @@ ghost use mathlib.Core.Path.{_≡_};
 ghost use Rattle.pieces.specs.Setting.{cols};
 ghost use Rattle.pieces.specs.Opening.{startState};
 ghost use Rattle.columns.specs.Intake.{withState, storeOf, refusedWith, openAnswer, openLeft, rowsAnswer, rowsLeft, sWordsAnswer, sWordsLeft, cellsAnswer, cellsLeft, tablesAnswer, tablesLeft, finishAnswer, finishLeft};
-ghost use Rattle.columns.specs.Given.{countsOf, counted};
+ghost use Rattle.columns.specs.Given.{counted};
 use crate::opening::clear;
 use crate::rooms::room_number;
 use crate::rooms::rooms_of;
@@ -21,17 +21,12 @@ use selector::MOST_GATES;
 use selector::Marks;
 use tree::plan::Plan;
 
-// A plan, how much of each section came in so far, a mark for each gate that is in a row, and
-// the phase.
+// A plan, how much of each section came in so far with the phase, and a mark for each gate that is in
+// a row.
 pub struct Intake {
     pub plan: Plan,
-    pub rows: u64,
-    pub s_words: u64,
-    pub cells: u64,
-    pub tables: u64,
-    pub table_rows: u64,
+    pub counts: Counts,
     pub used: Marks,
-    pub phase: u64,
 }
 
 // 0 or a refusal number, and the state that the next call gets.
@@ -54,15 +49,18 @@ impl Intake {
     fn start(plan: Plan, phase: u64) -> Self
         ensures { λ r. ⌜ r ≡ withState plan (startState phase) ⌝ }
     {
-        Intake {
-            plan: plan,
+        let counts = Counts {
             rows: 0,
             s_words: 0,
             cells: 0,
             tables: 0,
             table_rows: 0,
-            used: [0; MOST_GATES],
             phase: phase,
+        };
+        Intake {
+            plan: plan,
+            counts: counts,
+            used: [0; MOST_GATES],
         }
     }
 
@@ -71,20 +69,6 @@ impl Intake {
         ensures { λ r. ⌜ r ≡ self .plan ⌝ }
     {
         self.plan
-    }
-
-    // How much came in so far, and the phase.
-    fn counts(self) -> Counts
-        ensures { λ r. ⌜ r ≡ countsOf self ⌝ }
-    {
-        Counts {
-            rows: self.rows,
-            s_words: self.s_words,
-            cells: self.cells,
-            tables: self.tables,
-            table_rows: self.table_rows,
-            phase: self.phase,
-        }
     }
 
     // What a call answered, with the plan and the marks of the state that it got.
@@ -96,13 +80,8 @@ impl Intake {
         let counts = given.counts;
         let state = Intake {
             plan: plan,
-            rows: counts.rows,
-            s_words: counts.s_words,
-            cells: counts.cells,
-            tables: counts.tables,
-            table_rows: counts.table_rows,
+            counts: counts,
             used: used,
-            phase: counts.phase,
         };
         Taken {
             number: given.number,
@@ -153,12 +132,13 @@ impl Intake {
     {
         let plan = self.plan;
         let outline = plan.outline();
+        let counts = self.counts;
         let used = self.used;
         let told = take_rows(
             outline,
             &plan.gates,
             &plan.nodes,
-            self.counts(),
+            counts,
             used,
             piece,
             constants,
@@ -167,13 +147,8 @@ impl Intake {
         let counts = told.counts;
         let state = Intake {
             plan: plan,
-            rows: counts.rows,
-            s_words: counts.s_words,
-            cells: counts.cells,
-            tables: counts.tables,
-            table_rows: counts.table_rows,
+            counts: counts,
             used: marks,
-            phase: counts.phase,
         };
         Taken {
             number: told.number,
@@ -188,14 +163,8 @@ impl Intake {
     {
         let plan = self.plan;
         let outline = plan.outline();
-        let given = take_s_words(
-            outline,
-            &plan.gates,
-            &plan.nodes,
-            self.counts(),
-            piece,
-            constants,
-        );
+        let counts = self.counts;
+        let given = take_s_words(outline, &plan.gates, &plan.nodes, counts, piece, constants);
         self.after(given)
     }
 
@@ -206,11 +175,12 @@ impl Intake {
     {
         let plan = self.plan;
         let outline = plan.outline();
+        let counts = self.counts;
         let given = take_cells(
             outline,
             &plan.gates,
             &plan.nodes,
-            self.counts(),
+            counts,
             piece,
             copies,
             scratch,
@@ -225,14 +195,8 @@ impl Intake {
     {
         let plan = self.plan;
         let outline = plan.outline();
-        let given = take_tables(
-            outline,
-            &plan.gates,
-            &plan.nodes,
-            self.counts(),
-            piece,
-            tables,
-        );
+        let counts = self.counts;
+        let given = take_tables(outline, &plan.gates, &plan.nodes, counts, piece, tables);
         self.after(given)
     }
 
@@ -243,12 +207,13 @@ impl Intake {
     {
         let plan = self.plan;
         let outline = plan.outline();
+        let counts = self.counts;
         let used = self.used;
         let given = take_finish(
             outline,
             &plan.gates,
             &plan.nodes,
-            self.counts(),
+            counts,
             used,
             copies,
             scratch,

@@ -8,7 +8,6 @@ use mathlib.Core.Bool.{Bool, true}
 use mathlib.Core.List.{List, [], _++_, _∷_}
 use Rattle.base.specs.Limits.{mostGates}
 use Rattle.base.specs.Pick.{both, pick}
-use Rattle.columns.specs.Given.{countsOf}
 use Rattle.columns.specs.Intake.{zeroIntake}
 use Rattle.columns.specs.declared.intake.Intake.{Intake}
 use Rattle.columns.specs.declared.take.Counts.{Counts}
@@ -117,7 +116,7 @@ abbrev pub progressIn : Counts → List ℕ → List ℕ
 progressIn k us = progressWords (k .rows) (k .«s_words») (k .cells) (k .tables) (k .«table_rows») us (k .phase)
 
 abbrev pub progressOf : Intake → List ℕ
-progressOf s = progressIn (countsOf s) (s .used)
+progressOf s = progressIn (s .counts) (s .used)
 
 -- the marks among a state's words
 abbrev pub marksAt : List ℕ → List ℕ
@@ -131,17 +130,24 @@ intakeWords s = planWords (s .plan) ++ progressOf s
 abbrev pub progressed : List ℕ → List ℕ → List ℕ
 progressed new old = pick (leb stateLength (length old)) (take planLength old ++ (new ++ drop stateLength old)) old
 
-abbrev pub intakeAt : List ℕ → Intake
-intakeAt ws =
+-- the counts among a state's words
+abbrev pub countsAt : List ℕ → Counts
+countsAt ws =
     record {
-      plan = planOf (take planLength ws);
       rows = getD ws countsFrom 0;
       «s_words» = getD ws (countsFrom + 1) 0;
       cells = getD ws (countsFrom + 2) 0;
       tables = getD ws (countsFrom + 3) 0;
       «table_rows» = getD ws (countsFrom + 4) 0;
-      used = marksAt ws;
       phase = getD ws phaseAt 0;
+    }
+
+abbrev pub intakeAt : List ℕ → Intake
+intakeAt ws =
+    record {
+      plan = planOf (take planLength ws);
+      counts = countsAt ws;
+      used = marksAt ws;
     }
 
 -- the state of any words. Where the plan's words encode none its plan is that of zeros, and the state a made-up one.

@@ -125,19 +125,21 @@ module _ (s : Intake) (g : length (s .plan .gates) ≡ gateSlots) (n : length (s
   pub state-length : length (intakeWords s) ≡ stateLength
   state-length =
       let a = length-append (planWords (s .plan)) (progressOf s) in
-      let b = length-append (s .used) (s .phase ∷ []) in
+      let b = length-append (s .used) (s .counts .phase ∷ []) in
       omega (arith, long, a, b)
 
   state-fields : intakeAt (intakeWords s) ≡ s
   state-fields = λ i. record {
     plan = (ap planOf (take-at (planWords (s .plan)) (progressOf s) planLength long) ∙ plan-back (s .plan) g n) i;
-    rows = part-getD (planWords (s .plan)) (progressOf s) planLength 0 long i;
-    «s_words» = part-getD (planWords (s .plan)) (progressOf s) planLength 1 long i;
-    cells = part-getD (planWords (s .plan)) (progressOf s) planLength 2 long i;
-    tables = part-getD (planWords (s .plan)) (progressOf s) planLength 3 long i;
-    «table_rows» = part-getD (planWords (s .plan)) (progressOf s) planLength 4 long i;
-    used = (ap (take mostGates) (part-drop (planWords (s .plan)) (progressOf s) planLength countsLength long) ∙ take-at (s .used) (s .phase ∷ []) mostGates u) i;
-    phase = (part-getD (planWords (s .plan)) (progressOf s) planLength (countsLength + mostGates) long ∙ getD-at (s .used) (s .phase) [] 0 mostGates u) i;
+    counts = record {
+      rows = part-getD (planWords (s .plan)) (progressOf s) planLength 0 long i;
+      «s_words» = part-getD (planWords (s .plan)) (progressOf s) planLength 1 long i;
+      cells = part-getD (planWords (s .plan)) (progressOf s) planLength 2 long i;
+      tables = part-getD (planWords (s .plan)) (progressOf s) planLength 3 long i;
+      «table_rows» = part-getD (planWords (s .plan)) (progressOf s) planLength 4 long i;
+      phase = (part-getD (planWords (s .plan)) (progressOf s) planLength (countsLength + mostGates) long ∙ getD-at (s .used) (s .counts .phase) [] 0 mostGates u) i;
+    };
+    used = (ap (take mostGates) (part-drop (planWords (s .plan)) (progressOf s) planLength countsLength long) ∙ take-at (s .used) (s .counts .phase ∷ []) mostGates u) i;
   }
 
   -- and a state

@@ -3,7 +3,7 @@
 -- Main definitions: `heldAt`, `gatesIn`, `nodesIn`. Main statements: `state-parts`, `holds`, `holds-none`, `none-fault`.
 use Prim.Native.Nat.{_+_, _<_, _≤_, ℕ}
 use borrow.Author.Tests.{eq-eqb, ne-eqb}
-use lib.Dec.{eqb, leb}
+use lib.Dec.{eqb}
 use lib.ListN.{drop, getD, length, length-drop, replicate, take, take-append-drop}
 use lib.Seq.{drop-append-le, getD-take, length-take-le, take-append-le}
 use mathlib.Core.Bool.{Bool, false, true, true≢false}
@@ -22,11 +22,11 @@ use Rattle.tree.specs.Plan.{outlineOf, planFault, planIn, zeroPlan}
 use Rattle.tree.specs.PlanLaws.{zero-fault}
 use Rattle.tree.specs.declared.plan.Outline.{Outline}
 use Rattle.tree.specs.declared.plan.Plan.{Plan}
-use Rattle.columns.specs.Given.{countsOf, intakeIn, stateIn}
-use Rattle.columns.specs.Intake.{withState, zeroIntake}
+use Rattle.columns.specs.Given.{intakeIn}
+use Rattle.columns.specs.Intake.{stateIn, withState, zeroIntake}
 use Rattle.columns.specs.declared.intake.Intake.{Intake}
 use Rattle.columns.specs.declared.take.Counts.{Counts}
-use Rattle.encoding.specs.Encoding.{countAt, countsFrom, gatesFrom, intakeOf, lookupFits, lookupThere, marksAt, nodesFrom, phaseAt, planAt, planLength, planOf, stateLength, tailFrom, usedFrom}
+use Rattle.encoding.specs.Encoding.{countsAt, countAt, gatesFrom, intakeOf, lookupFits, lookupThere, marksAt, nodesFrom, planAt, planLength, stateLength, tailFrom}
 use Rattle.encoding.specs.EncodingLaws.{plan-none, plan-read, state-other, state-read}
 use Rattle.encoding.specs.declared.held.Held.{Held}
 
@@ -52,17 +52,6 @@ outlineAt ws =
       told = record { degree = getD ws (tailFrom + 1) 0; constants = getD ws (tailFrom + 2) 0; factor = getD ws (tailFrom + 3) 0 };
     }
 
-abbrev pub countsAt : List ℕ → Counts
-countsAt ws =
-    record {
-      rows = getD ws countsFrom 0;
-      «s_words» = getD ws (countsFrom + 1) 0;
-      cells = getD ws (countsFrom + 2) 0;
-      tables = getD ws (countsFrom + 3) 0;
-      «table_rows» = getD ws (countsFrom + 4) 0;
-      phase = getD ws phaseAt 0;
-    }
-
 abbrev pub marksRead : List ℕ → List ℕ
 marksRead ws = pick (eqb (length ws) stateLength) (marksAt ws) (replicate mostGates 0)
 
@@ -74,7 +63,7 @@ unfoldable pub heldAt : List ℕ → Held
 heldAt ws =
     pick (eqb (length ws) stateLength)
     (pick (lookupThere ws) (record { fits = true; outline = outlineAt ws; counts = countsAt ws }) (noState (countsAt ws)))
-    (noState (countsOf zeroIntake))
+    (noState (zeroIntake .counts))
 
 -- ---- the plan's words are the first of a state's
 module _ (ws : List ℕ) (e : length ws ≡ stateLength) where
@@ -150,7 +139,7 @@ holds ws h e f = by (ℕ-discrete (length ws) stateLength) (lookupThere ws) refl
     none k z = absurd (true≢false (sym f ∙ ap (λ (x : Held). x .fits) z))
 
     by : Dec (length ws ≡ stateLength) → (t : Bool) → lookupThere ws ≡ t → Holds ws h
-    by (no d) t l = none (countsOf zeroIntake) (e ∙ rw (ne-eqb (length ws) stateLength d))
+    by (no d) t l = none (zeroIntake .counts) (e ∙ rw (ne-eqb (length ws) stateLength d))
     by (yes k) false l = none (countsAt ws) (e ∙ rw (eq-eqb (length ws) stateLength k, l))
     by (yes k) true l =
         let z : h ≡ record { fits = true; outline = outlineAt ws; counts = countsAt ws } = e ∙ rw (eq-eqb (length ws) stateLength k, l) in
@@ -163,7 +152,7 @@ holds-none ws h e f = by (ℕ-discrete (length ws) stateLength) (lookupThere ws)
   where
     by : Dec (length ws ≡ stateLength) → (t : Bool) → lookupThere ws ≡ t → withState zeroPlan (stateIn (h .counts) (marksRead ws)) ≡ intakeOf ws
     by (no d) t l =
-        let z : h ≡ noState (countsOf zeroIntake) = e ∙ rw (ne-eqb (length ws) stateLength d) in
+        let z : h ≡ noState (zeroIntake .counts) = e ∙ rw (ne-eqb (length ws) stateLength d) in
         rw (z, ne-eqb (length ws) stateLength d) (state-other ws d)
     by (yes k) false l =
         let z : h ≡ noState (countsAt ws) = e ∙ rw (eq-eqb (length ws) stateLength k, l) in

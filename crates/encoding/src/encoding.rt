@@ -196,13 +196,5 @@ pub fn encode_state(state: Intake, words: &mut [u64])
     }
     encode_plan(state.plan, words);
     let used = state.used;
-    let counts = Counts {
-        rows: state.rows,
-        s_words: state.s_words,
-        cells: state.cells,
-        tables: state.tables,
-        table_rows: state.table_rows,
-        phase: state.phase,
-    };
-    encode_progress(counts, used, words);
+    encode_progress(state.counts, used, words);
 }

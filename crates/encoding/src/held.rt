@@ -2,8 +2,8 @@
 // a state in parts to be lent.
 ghost use mathlib.Core.Path.{_≡_};
 ghost use lib.ListN.{length};
-ghost use Rattle.encoding.specs.Encoding.{stateLength};
-ghost use Rattle.encoding.specs.Held.{countsAt, heldAt, marksRead, noState};
+ghost use Rattle.encoding.specs.Encoding.{countsAt, stateLength};
+ghost use Rattle.encoding.specs.Held.{heldAt, marksRead, noState};
 use crate::encoding::COUNT_AT;
 use crate::encoding::COUNTS_FROM;
 use crate::encoding::PHASE_AT;

@@ -9,8 +9,8 @@ use Rattle.tree.specs.declared.plan.Outline.{Outline}
 use Rattle.tree.specs.declared.plan.Plan.{Plan}
 use Rattle.pieces.specs.Setting.{cols}
 use Rattle.pieces.specs.Calls.{rows, sWords, cellWords, tableWords, finishing}
-use Rattle.columns.specs.Intake.{withState, rowsAnswer, rowsLeft, sWordsAnswer, sWordsLeft, cellsAnswer, cellsLeft, tablesAnswer, tablesLeft, finishAnswer, finishLeft}
-use Rattle.columns.specs.Given.{stateIn, intakeIn, givenOf, markedOf, counted, remarked}
+use Rattle.columns.specs.Intake.{stateIn, withState, rowsAnswer, rowsLeft, sWordsAnswer, sWordsLeft, cellsAnswer, cellsLeft, tablesAnswer, tablesLeft, finishAnswer, finishLeft}
+use Rattle.columns.specs.Given.{intakeIn, givenOf, markedOf, counted, remarked}
 use Rattle.columns.specs.GivenLaws.{bare, words-whole, cells-whole, tables-whole, rows-whole, finish-whole}
 use Rattle.columns.specs.declared.intake.Intake.{Intake}
 use Rattle.columns.specs.declared.take.Counts.{Counts}

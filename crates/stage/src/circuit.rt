@@ -1,8 +1,7 @@
 // A whole circuit in one call. A refusal of any step leaves every word of the buffers as it was:
 // the number is known before the first word is written.
 ghost use mathlib.Core.Path.{_≡_};
-ghost use Rattle.columns.specs.Intake.{settingOf, storeOf, withState};
-ghost use Rattle.columns.specs.Given.{stateIn, countsOf};
+ghost use Rattle.columns.specs.Intake.{stateIn, settingOf, storeOf, withState};
 ghost use Rattle.columns.specs.Sections.{sectionsNumber};
 ghost use Rattle.claim.specs.Chain.{chained};
 ghost use Rattle.claim.specs.Keeping.{keeping};
@@ -34,20 +33,6 @@ pub(crate) fn refused(number: u64) -> Staged
     Staged {
         number: number,
         plan: Plan::zero(),
-    }
-}
-
-// A state's counts and its phase.
-fn counts_of(state: Intake) -> Counts
-    ensures { λ r. ⌜ r ≡ countsOf state ⌝ }
-{
-    Counts {
-        rows: state.rows,
-        s_words: state.s_words,
-        cells: state.cells,
-        tables: state.tables,
-        table_rows: state.table_rows,
-        phase: state.phase,
     }
 }
 
@@ -114,7 +99,7 @@ fn run_planned(
     let marks = state.used;
     give_sections(
         state.plan,
-        counts_of(state),
+        state.counts,
         marks,
         rows,
         s_words,

@@ -5,8 +5,7 @@ use mathlib.Core.Path.{sym, _∙_}
 use Rattle.base.specs.Pick.{pick-yes, pick-no}
 use Rattle.tree.specs.Plan.{planIn}
 use Rattle.pieces.specs.Finishing.{complete, allUsed}
-use Rattle.columns.specs.Intake.{settingOf}
-use Rattle.columns.specs.Given.{stateIn}
+use Rattle.columns.specs.Intake.{stateIn, settingOf}
 use Rattle.columns.proofs.sections.last_tests.Statement.{statement}
 use Rattle.columns.proofs.sections.last_tests.Tie as tie
 

@@ -12,8 +12,7 @@ use Rattle.base.specs.Pick.{both, pick}
 use Rattle.parameters.specs.Lookup.{modeOf}
 use Rattle.tree.specs.Plan.{planIn}
 use Rattle.pieces.specs.Setting.{mostTables, countsFit}
-use Rattle.columns.specs.Intake.{settingOf}
-use Rattle.columns.specs.Given.{stateIn}
+use Rattle.columns.specs.Intake.{stateIn, settingOf}
 use Rattle.columns.proofs.take.counts_fit.Statement.{statement}
 use Rattle.columns.proofs.take.counts_fit.Tie as tie
 

@@ -138,7 +138,7 @@ still t ws e = rw (e, add-zero, sum-done)
 
 nothing-written : (s : Intake) (ws b : List ℕ) → tablesOf ws ≡ [] → tablesWritten (settingOf (s .plan)) (stateOf s) ws b ≡ b
 unfolding tablesWritten
-nothing-written s ws b e = rw e (tables-done (widthOf (s .plan .lookup)) (s .plan .trace) (s .tables) (s .«table_rows») b)
+nothing-written s ws b e = rw e (tables-done (widthOf (s .plan .lookup)) (s .plan .trace) (s .counts .tables) (s .counts .«table_rows») b)
 
 give-requires-4 : tie.Need-give-requires-4
 give-requires-4 c κs = search needs

@@ -6,8 +6,7 @@ use lib.ListN.{length}
 use Rattle.selector.specs.Gates.{gateSlots}
 use Rattle.selector.specs.Nodes.{nodeSlots}
 use Rattle.pieces.specs.Calls.{rows, sWords, cellWords, tableWords}
-use Rattle.columns.specs.Intake.{withState}
-use Rattle.columns.specs.Given.{stateIn}
+use Rattle.columns.specs.Intake.{stateIn, withState}
 use Rattle.claim.specs.Chain.{Kept, next, chained}
 use Rattle.claim.specs.Keeping.{keeping}
 use Rattle.stage.specs.Steps.{step-rows, step-words, step-cells, step-tables, step-finishing}

@@ -13,9 +13,6 @@ use Rattle.columns.proofs.intake.Intake.finish.Tie as tie
 outline-requires : tie.Need-outline-requires
 outline-requires c κs = search needs
 
-counts-requires : tie.Need-counts-requires
-counts-requires c κs = search needs
-
 take-finish-requires : tie.Need-take-finish-requires
 take-finish-requires c κs = search needs
 
@@ -29,8 +26,8 @@ returns : tie.Need-returns
 returns c =
     let s = c .before .before .before .before .before .before .before .before .before .before .before .before .before .before .before .before .args .self in
     let b = cols (c .before .before .before .before .before .before .before .before .before .before .before .before .before .before .before .before .args .copies .now) (c .before .before .before .before .before .before .before .before .before .before .before .before .before .before .before .before .args .scratch .now) in
-    let e : c .before .before .before .take-finish .result ≡ givenOf (finishAnswer s b) = c .before .before .before .take-finish .ensures .0 ∙ rw (c .before .before .before .before .before .before .before .before .before .before .before .before .outline .ensures, c .before .before .before .before .before .counts .ensures) in
-    (c .after .ensures ∙ ap (λ (g : Given). counted s g) e ∙ finish-whole s b, c .before .before .before .take-finish .ensures .1 ∙ rw (c .before .before .before .before .before .before .before .before .before .before .before .before .outline .ensures, c .before .before .before .before .before .counts .ensures))
+    let e : c .before .before .before .take-finish .result ≡ givenOf (finishAnswer s b) = c .before .before .before .take-finish .ensures .0 ∙ rw (c .before .before .before .before .before .before .before .before .before .before .before .before .outline .ensures) in
+    (c .after .ensures ∙ ap (λ (g : Given). counted s g) e ∙ finish-whole s b, c .before .before .before .take-finish .ensures .1 ∙ rw (c .before .before .before .before .before .before .before .before .before .before .before .before .outline .ensures))
 
 pub finish-spec : {M : Type 1} → statement M
-finish-spec = tie.close (tie.spec outline-requires counts-requires take-finish-requires after-requires same-length returns)
+finish-spec = tie.close (tie.spec outline-requires take-finish-requires after-requires same-length returns)

@@ -1,7 +1,7 @@
 -- `columns::intake::Intake::open` meets its contract: 19, 10, 9, then labels written and all other named words zeroed.
 -- Assumes nothing.
 use borrow.Author.Needs.{needs}
-use mathlib.Core.Path.{_≡_, refl, sym, ap, _∙_}
+use mathlib.Core.Path.{_≡_, sym, ap, _∙_}
 use mathlib.Core.Bool.{true}
 use mathlib.Core.List.{List}
 use native.Mathlib.Omega.{arith}
@@ -12,7 +12,7 @@ use Rattle.labels.specs.Ranges.{rangesFit}
 use Rattle.labels.specs.Labels.{searchNumber, fillNumber}
 use Rattle.labels.specs.LabelLaws.{written-refused, written-is}
 use Rattle.base.specs.Pick.{pick}
-use Rattle.tree.specs.Plan.{outlineOf, planFault, zeroPlan}
+use Rattle.tree.specs.Plan.{outlineOf, planFault}
 use Rattle.columns.specs.Rooms.{RoomsOf}
 use Rattle.columns.specs.GivenLaws.{small}
 use Rattle.tree.specs.declared.plan.Plan.{Plan}

@@ -12,9 +12,6 @@ use Rattle.columns.proofs.intake.Intake.rows.Tie as tie
 outline-requires : tie.Need-outline-requires
 outline-requires c κs = search needs
 
-counts-requires : tie.Need-counts-requires
-counts-requires c κs = search needs
-
 take-rows-requires : tie.Need-take-rows-requires
 take-rows-requires c κs = search needs
 
@@ -26,8 +23,8 @@ returns c =
     let s = c .before .before .before .before .before .before .before .before .before .before .before .before .before .before .before .before .before .args .self in
     let ws = c .before .before .before .before .before .before .before .before .before .before .before .before .before .before .before .before .before .args .piece .now in
     let b = c .before .before .before .before .before .before .before .before .before .before .before .before .before .before .before .before .before .args .constants .now in
-    let e : c .before .before .before .before .take-rows .result ≡ markedOf (rowsAnswer s ws b) = c .before .before .before .before .take-rows .ensures .0 ∙ rw (c .before .before .before .before .before .before .before .before .before .before .before .before .before .outline .ensures, c .before .before .before .before .before .before .counts .ensures) in
-    (ap (λ (g : Marked). remarked s g) e ∙ rows-whole s ws b, c .before .before .before .before .take-rows .ensures .1 ∙ rw (c .before .before .before .before .before .before .before .before .before .before .before .before .before .outline .ensures, c .before .before .before .before .before .before .counts .ensures))
+    let e : c .before .before .before .before .take-rows .result ≡ markedOf (rowsAnswer s ws b) = c .before .before .before .before .take-rows .ensures .0 ∙ rw (c .before .before .before .before .before .before .before .before .before .before .before .before .before .outline .ensures) in
+    (ap (λ (g : Marked). remarked s g) e ∙ rows-whole s ws b, c .before .before .before .before .take-rows .ensures .1 ∙ rw (c .before .before .before .before .before .before .before .before .before .before .before .before .before .outline .ensures))
 
 pub rows-spec : {M : Type 1} → statement M
-rows-spec = tie.close (tie.spec outline-requires counts-requires take-rows-requires same-length returns)
+rows-spec = tie.close (tie.spec outline-requires take-rows-requires same-length returns)
