@@ -65,7 +65,7 @@ own-progress ws e =
 
 progress-long : (s : Intake) → length (s .used) ≡ mostGates → length (progressOf s) ≡ progressLength
 progress-long s u =
-    let a = length-append (s .used) (s .phase ∷ []) in
+    let a = length-append (s .used) (s .counts .phase ∷ []) in
     omega (arith, a, u)
 
 -- ---- one call
