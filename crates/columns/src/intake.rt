@@ -117,7 +117,6 @@ impl Intake {
         let rooms = rooms_of(outline);
         clear(rooms.tables, tables);
         clear(rooms.scratch, scratch);
-        // last, since rows are what mostly comes next: they find these words in the cache
         clear(rooms.constants, constants);
         Taken {
             number: 0,
