@@ -1,6 +1,6 @@
 -- The arrays of the plan and of the state that words encode have their lengths.
 --
--- Main definition: `LongPlan`. Main statements: `plan-long`, `own-plan`, `used-long`, `marked-long`.
+-- Main definitions: `LongPlan`, `Long`. Main statements: `plan-long`, `own-plan`, `used-long`, `marked-long`.
 use Prim.Native.Nat.{ℕ}
 use lib.ListN.{drop, length, length-drop, length-set, set, take}
 use lib.Seq.{length-take-le}
@@ -56,6 +56,10 @@ own-plan ws = by (ℕ-discrete (length ws) stateLength)
     by : Dec (length ws ≡ stateLength) → LongPlan (intakeOf ws .plan)
     by (yes e) = long-like (planOf (take planLength ws)) (intakeOf ws .plan) (ap (λ (s : Intake). s .plan) (state-read ws e)) (plan-long (take planLength ws))
     by (no d) = long-like zeroPlan (intakeOf ws .plan) (ap (λ (s : Intake). s .plan) (state-other ws d)) zero-long
+
+pub record Long (s : Intake) : Type 0 where
+  pub plan : LongPlan (s .plan)
+  pub used : length (s .used) ≡ mostGates
 
 -- marks stay as many
 pub marked-long : (u : List ℕ) (ts : List Read) → length (marked u ts) ≡ length u
