@@ -1,20 +1,21 @@
 -- What opening and the calls after it leave in the state's words, and what opening answers. A later call's number and columns are those of `columns` for the
 -- state that its words encode.
 --
--- Main definitions: `openCall`, `openedState`, `openedStore`, `stateAfter`, `progressAfter`, `markedAfter`, `countedAfter`.
+-- Main definitions: `openCall`, `openedState`, `openedStore`, `openedWords`, `stateAfter`, `progressAfter`, `markedAfter`, `countedAfter`.
 use Prim.Native.Nat.{ℕ}
 use lib.Dec.{eqb, leb}
-use lib.ListN.{length}
+use lib.ListN.{length, replicate}
 use mathlib.Core.List.{List}
 use Rattle.base.specs.Pick.{pick}
 use Rattle.columns.specs.Given.{markedOf, markedWith}
-use Rattle.columns.specs.Intake.{openAnswer, openLeft}
+use Rattle.columns.specs.Intake.{openAnswer, openLeft, withState}
 use Rattle.columns.specs.declared.intake.Taken.{Taken}
 use Rattle.columns.specs.declared.take.Given.{Given}
 use Rattle.columns.specs.declared.take.Marked.{Marked}
+use Rattle.pieces.specs.Opening.{openState}
 use Rattle.pieces.specs.Setting.{Store}
-use Rattle.tree.specs.Plan.{planFault}
-use Rattle.encoding.specs.Encoding.{handed, intakeWords, marksAt, planOf, progressIn, progressed, stateLength}
+use Rattle.tree.specs.Plan.{planFault, zeroPlan}
+use Rattle.encoding.specs.Encoding.{handed, intakeWords, marksAt, planOf, progressIn, progressOf, progressed, stateLength}
 
 -- "Open: 19; 10; 9 candidates reach p." The state's slice is tested just before the columns.
 unfoldable pub openCall : List ℕ → List ℕ → Store → ℕ
@@ -28,6 +29,10 @@ openedState ws state b = handed (intakeWords (openAnswer (planOf ws) b .state)) 
 -- a state's slice that is too short leaves the columns as they were
 unfoldable pub openedStore : List ℕ → List ℕ → Store → Store
 openedStore ws state b = pick (leb stateLength (length state)) (openLeft (planOf ws) b) b
+
+-- the state's words after an opening with this number: the plan's words and no piece so far, or zeros
+unfoldable pub openedWords : ℕ → List ℕ → List ℕ → List ℕ
+openedWords n ws old = pick (eqb n 0) (progressed (progressOf (withState zeroPlan openState)) (handed ws old)) (handed (replicate stateLength 0) old)
 
 -- "A refusal returns its number and the state given": its words stay as they were, made-up ones too
 unfoldable pub stateAfter : Taken → List ℕ → List ℕ

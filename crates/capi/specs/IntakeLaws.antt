@@ -1,11 +1,11 @@
 -- Opening and the calls after it, case by case.
 --
 -- Main definitions: `PlanThere`. Main statements: `state-given`, `state-kept`; `progress-given`, `progress-kept`, `progress-state`, `passed`; `rows-there`, `words-there`, `cells-there`, `tables-there`, `finish-there`; `rows-back`, `words-back`, `cells-back`, `tables-back`, `finish-back` and `..-none`; `open-short`,
--- `open-made-up`, `open-given`.
+-- `open-made-up`, `open-given`, `open-none`.
 use Prim.Native.Nat.{_<_, _≤_, ℕ}
 use borrow.Author.Tests.{eq-eqb, le-leb, lt-leb, ne-eqb}
 use lib.Dec.{eqb, leb}
-use lib.ListN.{length}
+use lib.ListN.{length, replicate}
 use mathlib.Core.Bool.{Bool, false, true}
 use mathlib.Core.List.{List, []}
 use mathlib.Core.Logic.{_≢_}
@@ -16,7 +16,7 @@ use Rattle.base.specs.Pick.{pick, pick-no, pick-yes}
 use Rattle.columns.specs.Given.{counted, givenOf, intakeIn, markedOf, markedWith}
 use Rattle.columns.specs.GivenLaws.{bare, cells-whole, finish-whole, tables-whole, words-whole}
 use Rattle.columns.specs.Intake.{answered, cellsAnswer, cellsLeft, finishAnswer, finishLeft, openAnswer, openLeft, refusedWith, rowsAnswer, rowsLeft, sWordsAnswer, sWordsLeft, settingOf, stateOf, tablesAnswer, tablesLeft, withState}
-use Rattle.columns.specs.IntakeLaws.{cells-19, cells-refused, falls-plan, finish-19, finish-refused, open-19, open-refused, plan-fine, rows-19, rows-refused, tables-19, tables-refused, words-19, words-refused}
+use Rattle.columns.specs.IntakeLaws.{cells-19, cells-refused, falls-plan, finish-19, finish-refused, open-19, open-refused, open-taken, plan-fine, rows-19, rows-refused, tables-19, tables-refused, words-19, words-refused}
 use Rattle.columns.specs.declared.intake.Intake.{Intake}
 use Rattle.columns.specs.declared.intake.Taken.{Taken}
 use Rattle.columns.specs.declared.take.Given.{Given}
@@ -34,12 +34,12 @@ use Rattle.tree.specs.declared.plan.Plan.{Plan}
 use Rattle.encoding.specs.Encoding.{handed, intakeOf, intakeWords, marksAt, planOf, planWords, progressIn, progressOf, progressed, stateLength}
 use Rattle.encoding.specs.Held.{Holds, gatesIn, heldAt, holds, marksRead, nodesIn, none-fault}
 use Rattle.encoding.specs.declared.held.Held.{Held}
-use Rattle.encoding.specs.EncodingLaws.{handed-short, plan-there, state-length, state-progressed}
+use Rattle.encoding.specs.EncodingLaws.{handed-short, plan-there, sound-again, state-length, state-progressed, state-written}
 use Rattle.selector.specs.Gates.{gateSlots}
 use Rattle.base.specs.Limits.{mostGates}
 use Rattle.selector.specs.Nodes.{nodeSlots}
-use Rattle.capi.specs.Lengths.{Long, long-like, marked-long, own-plan, used-long}
-use Rattle.capi.specs.Intake.{countedAfter, markedAfter, openCall, openedState, openedStore, progressAfter, stateAfter}
+use Rattle.capi.specs.Lengths.{Long, long-like, marked-long, own-plan, plan-long, used-long}
+use Rattle.capi.specs.Intake.{countedAfter, markedAfter, openCall, openedState, openedStore, openedWords, progressAfter, stateAfter}
 
 -- ---- the state's words after a call
 pub state-given : (t : Taken) (old : List ℕ) → t .number ≡ 0 → handed (intakeWords (t .state)) old ≡ stateAfter t old
@@ -263,29 +263,6 @@ open-fault q b d =
     let k = open-refused q b 19 (open-19 q b d) (λ z. omega arith) in
     (ap (λ (x : Taken). x .number) (k .0), k .1)
 
-module _ (ws state : List ℕ) (b : Store) (q : Plan) (e : q ≡ planOf ws) (g : length (q .gates) ≡ gateSlots) (n : length (q .nodes) ≡ nodeSlots) where
-  short-state : length state < stateLength → (state ≡ openedState ws state b) × (b ≡ openedStore ws state b)
-  unfolding openedState openedStore
-  short-state h =
-      let k : length state < length (intakeWords (openAnswer q b .state)) = omega (arith, opened-long q b g n) in (
-        handed-short (intakeWords (openAnswer q b .state)) state k ∙ ap (λ (x : Plan). handed (intakeWords (openAnswer x b .state)) state) e,
-        sym (pick-no (leb stateLength (length state)) (openLeft (planOf ws) b) b (lt-leb stateLength (length state) h)),
-      )
-
-  pub open-short : planFault q ≡ 0 → length state < stateLength → (10 ≡ openCall ws state b) × ((state ≡ openedState ws state b) × (b ≡ openedStore ws state b))
-  unfolding openCall
-  open-short f h =
-      let p : planFault (planOf ws) ≡ 0 = ap planFault (sym e) ∙ f in (
-        sym (pick-yes (eqb (planFault (planOf ws)) 0) _ 19 (eq-eqb (planFault (planOf ws)) 0 p) ∙ pick-no (leb stateLength (length state)) (openAnswer (planOf ws) b .number) 10 (lt-leb stateLength (length state) h)),
-        short-state h,
-      )
-
-  pub open-made-up : planFault q ≢ 0 → length state < stateLength → (19 ≡ openCall ws state b) × ((state ≡ openedState ws state b) × (b ≡ openedStore ws state b))
-  unfolding openCall
-  open-made-up f h =
-      let p : planFault (planOf ws) ≢ 0 = λ z. f (ap planFault e ∙ z) in
-      (sym (pick-no (eqb (planFault (planOf ws)) 0) _ 19 (ne-eqb (planFault (planOf ws)) 0 p)), short-state h)
-
 -- where the state has room the number is the opening's own: 19 comes first there too
 own-number : (q : Plan) (b : Store) → openAnswer q b .number ≡ pick (eqb (planFault q) 0) (openAnswer q b .number) 19
 own-number q b = by (ℕ-discrete (planFault q) 0)
@@ -294,22 +271,87 @@ own-number q b = by (ℕ-discrete (planFault q) 0)
     by (yes z) = sym (pick-yes (eqb (planFault q) 0) (openAnswer q b .number) 19 (eq-eqb (planFault q) 0 z))
     by (no d) = sym (open-fault q b d .0) ∙ sym (pick-no (eqb (planFault q) 0) (openAnswer q b .number) 19 (ne-eqb (planFault q) 0 d))
 
-pub open-given : (ws state : List ℕ) (b : Store) → stateLength ≤ length state
-    → (q : Plan) (t : Taken) (w : List ℕ) (a : Store)
-    → q ≡ planOf ws
-    → t ≡ openAnswer q b
-    → w ≡ handed (intakeWords (t .state)) state
-    → a ≡ openLeft q b
-    → (t .number ≡ openCall ws state b) × ((w ≡ openedState ws state b) × (a ≡ openedStore ws state b))
-unfolding openCall openedState openedStore
-open-given ws state b h q t w a eq et ew ea =
-    let e : t ≡ openAnswer (planOf ws) b = et ∙ ap (λ (x : Plan). openAnswer x b) eq in
-    let l = le-leb stateLength (length state) h in (
-      ap (λ (x : Taken). x .number) e
-          ∙ own-number (planOf ws) b
-          ∙ ap (λ (k : ℕ). pick (eqb (planFault (planOf ws)) 0) k 19) (sym (pick-yes (leb stateLength (length state)) (openAnswer (planOf ws) b .number) 10 l)),
-      (
-        ew ∙ ap (λ (x : Taken). handed (intakeWords (x .state)) state) e,
-        ea ∙ ap (λ (x : Plan). openLeft x b) eq ∙ sym (pick-yes (leb stateLength (length state)) (openLeft (planOf ws) b) b l),
-      ),
-    )
+module _ (ws state : List ℕ) (b : Store) where
+  abbrev q : Plan
+  q = planOf ws
+
+  short-state : length state < stateLength → (state ≡ openedState ws state b) × (b ≡ openedStore ws state b)
+  unfolding openedState openedStore
+  short-state h =
+      let k : length state < length (intakeWords (openAnswer q b .state)) = omega (arith, opened-long q b (plan-long ws .gates) (plan-long ws .nodes)) in (
+        handed-short (intakeWords (openAnswer q b .state)) state k,
+        sym (pick-no (leb stateLength (length state)) (openLeft q b) b (lt-leb stateLength (length state) h)),
+      )
+
+  pub open-short : planFault q ≡ 0 → length state < stateLength → (10 ≡ openCall ws state b) × ((state ≡ openedState ws state b) × (b ≡ openedStore ws state b))
+  unfolding openCall
+  open-short f h = (
+    sym (pick-yes (eqb (planFault q) 0) _ 19 (eq-eqb (planFault q) 0 f) ∙ pick-no (leb stateLength (length state)) (openAnswer q b .number) 10 (lt-leb stateLength (length state) h)),
+    short-state h,
+  )
+
+  pub open-made-up : planFault q ≢ 0 → length state < stateLength → (19 ≡ openCall ws state b) × ((state ≡ openedState ws state b) × (b ≡ openedStore ws state b))
+  unfolding openCall
+  open-made-up f h = (sym (pick-no (eqb (planFault q) 0) _ 19 (ne-eqb (planFault q) 0 f)), short-state h)
+
+  -- the state's words are those of the state that opening hands back: a refused one is of zeros, and the words of an accepted plan are its own
+  words-refused-opening : (r : ℕ) → openNumber (settingOf q) b ≡ r → r ≢ 0 → openedWords r ws state ≡ openedState ws state b
+  unfolding openedWords openedState
+  words-refused-opening r e d =
+      pick-no (eqb r 0) _ (handed (replicate stateLength 0) state) (ne-eqb r 0 d)
+      ∙ ap (λ (t : Taken). handed (intakeWords (t .state)) state) (open-refused q b r e d .0)
+
+  words-opening : stateLength ≤ length state → openNumber (settingOf q) b ≡ 0 → openedWords 0 ws state ≡ openedState ws state b
+  unfolding openedWords openedState
+  words-opening h e =
+      let f : planFault q ≡ 0 = by (ℕ-discrete (planFault q) 0) in
+      state-written (withState q openState) state (plan-long ws .gates) (plan-long ws .nodes) refl h (handed ws state) (ap (λ (l : List ℕ). handed l state) (sym (sound-again ws f)))
+      ∙ ap (λ (t : Taken). handed (intakeWords (t .state)) state) (open-taken q b e .0)
+    where
+      by : Dec (planFault q ≡ 0) → planFault q ≡ 0
+      by (yes z) = z
+      by (no d) = absurd (omega (arith, open-19 q b d, e))
+
+  pub open-given : stateLength ≤ length state → (r : ℕ) (w : List ℕ) (a : Store)
+      → r ≡ openNumber (settingOf q) b
+      → w ≡ openedWords r ws state
+      → a ≡ openLeft q b
+      → (r ≡ openCall ws state b) × ((w ≡ openedState ws state b) × (a ≡ openedStore ws state b))
+  unfolding openCall openedStore
+  open-given h r w a er ew ea =
+      let l = le-leb stateLength (length state) h in (
+        er
+            ∙ own-opening
+            ∙ own-number q b
+            ∙ ap (λ (k : ℕ). pick (eqb (planFault q) 0) k 19) (sym (pick-yes (leb stateLength (length state)) (openAnswer q b .number) 10 l)),
+        (
+          ew ∙ by (ℕ-discrete r 0),
+          ea ∙ sym (pick-yes (leb stateLength (length state)) (openLeft q b) b l),
+        ),
+      )
+    where
+      by : Dec (r ≡ 0) → openedWords r ws state ≡ openedState ws state b
+      by (yes z) = ap (λ (k : ℕ). openedWords k ws state) z ∙ words-opening h (sym er ∙ z)
+      by (no d) = words-refused-opening r (sym er) d
+
+      own-opening : openNumber (settingOf q) b ≡ openAnswer q b .number
+      own-opening = opening-number (ℕ-discrete (openNumber (settingOf q) b) 0)
+        where
+          opening-number : Dec (openNumber (settingOf q) b ≡ 0) → openNumber (settingOf q) b ≡ openAnswer q b .number
+          opening-number (yes z) = z ∙ ap (λ (t : Taken). t .number) (open-taken q b z .0)
+          opening-number (no d) = ap (λ (t : Taken). t .number) (open-refused q b _ refl d .0)
+
+  -- words that hold no plan are 19, whatever room the state has
+  pub open-none : planFault q ≢ 0 → (w : List ℕ) → w ≡ openedWords 19 ws state → (19 ≡ openCall ws state b) × ((w ≡ openedState ws state b) × (b ≡ openedStore ws state b))
+  unfolding openCall openedStore
+  open-none f w e = (
+    sym (pick-no (eqb (planFault q) 0) _ 19 (ne-eqb (planFault q) 0 f)),
+    (
+      e ∙ words-refused-opening 19 (open-19 q b f) (λ z. omega arith),
+      by (leb stateLength (length state)),
+    ),
+  )
+    where
+      by : (t : Bool) → b ≡ pick t (openLeft q b) b
+      by true = open-fault q b f .1
+      by false = refl

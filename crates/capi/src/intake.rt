@@ -4,10 +4,12 @@ ghost use mathlib.Core.Path.{_≡_};
 ghost use Rattle.pieces.specs.Setting.{cols};
 ghost use Rattle.columns.specs.Intake.{storeOf, rowsAnswer, rowsLeft, sWordsAnswer, sWordsLeft, cellsAnswer, cellsLeft, tablesAnswer, tablesLeft, finishAnswer, finishLeft};
 ghost use Rattle.encoding.specs.Encoding.{intakeOf};
-ghost use Rattle.capi.specs.Intake.{openCall, openedState, openedStore, countedAfter, markedAfter, stateAfter};
-use columns::intake::Intake;
+ghost use Rattle.capi.specs.Intake.{openCall, openedState, openedStore, openedWords, countedAfter, markedAfter, stateAfter};
+use columns::opening::open_parts;
+use columns::take::Counts;
 use columns::take::Given;
 use columns::take::Marked;
+use columns::take::OPEN;
 use columns::take::take_cells;
 use columns::take::take_finish;
 use columns::take::take_rows;
@@ -18,12 +20,14 @@ use encoding::encoding::GATES_FROM;
 use encoding::encoding::NODES_FROM;
 use encoding::encoding::STATE_WORDS;
 use encoding::encoding::TAIL_FROM;
-use encoding::encoding::decode_plan;
 use encoding::encoding::encode_counts;
 use encoding::encoding::encode_progress;
-use encoding::encoding::encode_state;
+use encoding::encoding::hand;
 use encoding::held::held_at;
 use encoding::held::marks_of;
+use encoding::held::outlined_at;
+use selector::MOST_GATES;
+use tree::plan::parts_fault;
 
 // The number of a call. Where it is accepted the state's counts and phase are written. The words of the
 // plan are there, since no call after opening changes the plan, and the marks stay.
@@ -49,6 +53,29 @@ pub(crate) fn give_marked_back(marked: Marked, state: &mut [u64]) -> u64
     marked.number
 }
 
+// The number of an opening. The state gets its plan's words and no piece so far, or zeros where the opening is refused.
+fn give_opened(number: u64, plan: &[u64], state: &mut [u64]) -> u64
+    ensures { λ r. ⌜ r ≡ number ⌝ }
+    ensures { λ _. ⌜ now (state .exit) ≡ openedWords number (now (plan .entry)) (now (state .entry)) ⌝ }
+{
+    if number != 0 {
+        let zeros = [0; STATE_WORDS];
+        hand(&zeros, state);
+        return number;
+    }
+    hand(plan, state);
+    let none = Counts {
+        rows: 0,
+        s_words: 0,
+        cells: 0,
+        tables: 0,
+        table_rows: 0,
+        phase: OPEN,
+    };
+    encode_progress(none, [0; MOST_GATES], state);
+    number
+}
+
 // Opens the columns of a plan. 19, then 10 for the state, then 10 for the columns, then 9; the state
 // is then of zeros, where its slice has room.
 #[no_mangle]
@@ -64,17 +91,21 @@ pub extern "C" fn kinchoyu_open(
     ensures { λ _. ⌜ now (state .exit) ≡ openedState (now (plan .entry)) (now (state .entry)) (storeOf (now (constants .entry)) (now (copies .entry)) (now (scratch .entry)) (now (tables .entry))) ⌝ }
     ensures { λ _. ⌜ storeOf (now (constants .exit)) (now (copies .exit)) (now (scratch .exit)) (now (tables .exit)) ≡ openedStore (now (plan .entry)) (now (state .entry)) (storeOf (now (constants .entry)) (now (copies .entry)) (now (scratch .entry)) (now (tables .entry))) ⌝ }
 {
-    let decoded = decode_plan(plan);
-    if state.len() < STATE_WORDS {
-        if decoded.fault() == 0 {
-            return 10;
+    let held = outlined_at(plan);
+    if held.fits {
+        let outline = held.outline;
+        let gates = &plan[GATES_FROM..COUNT_AT];
+        let nodes = &plan[NODES_FROM..TAIL_FROM];
+        if state.len() < STATE_WORDS {
+            if parts_fault(outline, gates, nodes) == 0 {
+                return 10;
+            }
+            return 19;
         }
-        return 19;
+        let number = open_parts(outline, gates, nodes, constants, copies, scratch, tables);
+        return give_opened(number, plan, state);
     }
-    let taken = Intake::open(decoded, constants, copies, scratch, tables);
-    let opened = taken.state;
-    encode_state(opened, state);
-    taken.number
+    give_opened(19, plan, state)
 }
 
 // Row records: gate, number of constants, constants. 19, 10, 12, 11, 13.

@@ -23,8 +23,7 @@ pub(crate) fn all_used(many: u64, used: &Marks) -> bool
     true
 }
 
-// Whether a variable's value is below p and, where it is seen, its first cell one of `cells`. An
-// unseen variable's first cell is 0 after opening, so that the processor can foretell the test.
+// Whether a variable's value is below p and, where it is seen, its first cell one of `cells`.
 fn variable_fine(cells: u64, v: u64, scratch: &[u64]) -> bool
     requires { ⌜ (v < 4294967296) × (2 * v + 1 < length (now scratch)) ⌝ }
     ensures { λ r. ⌜ r ≡ variableFine cells (now (scratch .entry)) v ⌝ }

@@ -3,11 +3,9 @@
 ghost use mathlib.Core.Path.{_≡_};
 ghost use Rattle.pieces.specs.Setting.{cols};
 ghost use Rattle.pieces.specs.Opening.{startState};
-ghost use Rattle.columns.specs.Intake.{withState, storeOf, refusedWith, openAnswer, openLeft, rowsAnswer, rowsLeft, sWordsAnswer, sWordsLeft, cellsAnswer, cellsLeft, tablesAnswer, tablesLeft, finishAnswer, finishLeft};
+ghost use Rattle.columns.specs.Intake.{withState, storeOf, openAnswer, openLeft, rowsAnswer, rowsLeft, sWordsAnswer, sWordsLeft, cellsAnswer, cellsLeft, tablesAnswer, tablesLeft, finishAnswer, finishLeft};
 ghost use Rattle.columns.specs.Given.{counted};
-use crate::opening::clear;
-use crate::rooms::room_number;
-use crate::rooms::rooms_of;
+use crate::opening::open_parts;
 use crate::take::Counts;
 use crate::take::Given;
 use crate::take::NEVER;
@@ -33,15 +31,6 @@ pub struct Intake {
 pub struct Taken {
     pub number: u64,
     pub state: Intake,
-}
-
-fn refused(number: u64, state: Intake) -> Taken
-    ensures { λ r. ⌜ r ≡ refusedWith number state ⌝ }
-{
-    Taken {
-        number: number,
-        state: state,
-    }
 }
 
 impl Intake {
@@ -101,23 +90,22 @@ impl Intake {
         ensures { λ r. ⌜ r ≡ openAnswer plan (storeOf (now (constants .entry)) (now (copies .entry)) (now (scratch .entry)) (now (tables .entry))) ⌝ }
         ensures { λ _. ⌜ storeOf (now (constants .exit)) (now (copies .exit)) (now (scratch .exit)) (now (tables .exit)) ≡ openLeft plan (storeOf (now (constants .entry)) (now (copies .entry)) (now (scratch .entry)) (now (tables .entry))) ⌝ }
     {
-        let zero = Intake::start(Plan::zero(), NEVER);
-        if plan.fault() != 0 {
-            return refused(19, zero);
-        }
         let outline = plan.outline();
-        let short = room_number(outline, constants, copies, scratch, tables);
-        if short != 0 {
-            return refused(short, zero);
-        }
-        let number = labels::fill_labels(plan.trace, plan.copy, copies);
+        let number = open_parts(
+            outline,
+            &plan.gates,
+            &plan.nodes,
+            constants,
+            copies,
+            scratch,
+            tables,
+        );
         if number != 0 {
-            return refused(number, zero);
+            return Taken {
+                number: number,
+                state: Intake::start(Plan::zero(), NEVER),
+            };
         }
-        let rooms = rooms_of(outline);
-        clear(rooms.tables, tables);
-        clear(rooms.scratch, scratch);
-        clear(rooms.constants, constants);
         Taken {
             number: 0,
             state: Intake::start(plan, OPEN),

@@ -2,7 +2,7 @@
 mod cells;
 mod finishing;
 pub mod intake;
-mod opening;
+pub mod opening;
 mod records;
 mod rooms;
 mod row_tests;

@@ -334,32 +334,6 @@ part-read ws at n h =
     let e = length-take-le n (drop at ws) (omega (arith, length-drop at ws)) in
     paste-all (take n (drop at ws)) (replicate n 0) (e ∙ sym (length-replicate n 0))
 
--- the plan that is made of the words' parts
-pub plan-made : (ws : List ℕ) → length ws ≡ planLength → lookupThere ws ≡ true
-    → (p : Parameters) (l : LookupParameters) (gs ns : List ℕ)
-    → p ≡ parametersAt ws
-    → l ≡ lookupOf p
-    → gs ≡ paste (replicate gateSlots 0) 0 (take gateSlots (drop gatesFrom ws)) (length (take gateSlots (drop gatesFrom ws)))
-    → ns ≡ paste (replicate nodeSlots 0) 0 (take nodeSlots (drop nodesFrom ws)) (length (take nodeSlots (drop nodesFrom ws)))
-    → _≡_ {A = Plan} (record { trace = p .trace; copy = p .copy; allowed = p .allowed; specialised = p .specialised; variables = p .variables; lookup = l; gates = gs; «gate_count» = getD ws countAt 0; nodes = ns; «node_count» = getD ws tailFrom 0; degree = getD ws (tailFrom + 1) 0; constants = getD ws (tailFrom + 2) 0; factor = getD ws (tailFrom + 3) 0 }) (planOf ws)
-plan-made ws e f p l gs ns ep el eg en =
-    (λ i. record {
-      trace = ep i .trace;
-      copy = ep i .copy;
-      allowed = ep i .allowed;
-      specialised = ep i .specialised;
-      variables = ep i .variables;
-      lookup = (el ∙ ap lookupOf ep) i;
-      gates = (eg ∙ part-read ws gatesFrom gateSlots (omega arith)) i;
-      «gate_count» = getD ws countAt 0;
-      nodes = (en ∙ part-read ws nodesFrom nodeSlots (omega arith)) i;
-      «node_count» = getD ws tailFrom 0;
-      degree = getD ws (tailFrom + 1) 0;
-      constants = getD ws (tailFrom + 2) 0;
-      factor = getD ws (tailFrom + 3) 0;
-    })
-    ∙ plan-read ws e f
-
 -- ---- words that are decoded and encoded again
 -- the lookup mode of three words that fit answers for them
 mode-again : (p : Parameters) → lookupFits (p .mode) (p .width) (p .share) ≡ true → LookupWords p (lookupOf p)
@@ -417,7 +391,7 @@ module _ (ws : List ℕ) (e : length ws ≡ planLength) (f : lookupThere ws ≡ 
       (word-again ws 3 _ (omega arith) (word-again ws 4 _ (omega arith) (word-again ws 5 _ (omega arith) (word-again ws 6 _ (omega arith) (word-again ws 7 _ (omega arith) parts-again))))))))
 
 -- encoding what was decoded gives the words, where the plan has no fault
-sound-again : (ws : List ℕ) → planFault (planOf ws) ≡ 0 → planWords (planOf ws) ≡ ws
+pub sound-again : (ws : List ℕ) → planFault (planOf ws) ≡ 0 → planWords (planOf ws) ≡ ws
 sound-again ws z = by (ℕ-discrete (length ws) planLength) (lookupThere ws) refl
   where
     by : Dec (length ws ≡ planLength) → (t : Bool) → lookupThere ws ≡ t → planWords (planOf ws) ≡ ws

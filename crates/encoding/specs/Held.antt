@@ -1,6 +1,7 @@
--- A state's words where they stand: the numbers that are read off them by value, and that with the words lent beside them they are the state that the words encode.
+-- A plan's and a state's words where they stand: the numbers that are read off them by value, and that with the words lent beside them they are the plan and the
+-- state that the words encode.
 --
--- Main definitions: `heldAt`, `gatesIn`, `nodesIn`. Main statements: `state-parts`, `holds`, `holds-none`, `none-fault`.
+-- Main definitions: `outlinedAt`, `heldAt`, `gatesIn`, `nodesIn`. Main statements: `plans`, `plans-none`; `state-parts`, `holds`, `holds-none`, `none-fault`.
 use Prim.Native.Nat.{_+_, _<_, _≤_, ℕ}
 use borrow.Author.Tests.{eq-eqb, ne-eqb}
 use lib.Dec.{eqb}
@@ -26,11 +27,12 @@ use Rattle.columns.specs.Given.{intakeIn}
 use Rattle.columns.specs.Intake.{stateIn, withState, zeroIntake}
 use Rattle.columns.specs.declared.intake.Intake.{Intake}
 use Rattle.columns.specs.declared.take.Counts.{Counts}
-use Rattle.encoding.specs.Encoding.{countsAt, countAt, gatesFrom, intakeOf, lookupFits, lookupThere, marksAt, nodesFrom, planAt, planLength, stateLength, tailFrom}
-use Rattle.encoding.specs.EncodingLaws.{plan-none, plan-read, state-other, state-read}
+use Rattle.encoding.specs.Encoding.{countsAt, countAt, gatesFrom, intakeOf, lookupFits, lookupThere, marksAt, nodesFrom, planAt, planLength, planOf, stateLength, tailFrom}
+use Rattle.encoding.specs.EncodingLaws.{plan-none, plan-other, plan-read, state-other, state-read}
 use Rattle.encoding.specs.declared.held.Held.{Held}
+use Rattle.encoding.specs.declared.held.Outlined.{Outlined}
 
--- the words of gates and nodes among a state's
+-- the words of gates and nodes among a plan's or a state's
 abbrev pub gatesIn : List ℕ → List ℕ
 gatesIn ws = take gateSlots (drop gatesFrom ws)
 
@@ -55,15 +57,53 @@ outlineAt ws =
 abbrev pub marksRead : List ℕ → List ℕ
 marksRead ws = pick (eqb (length ws) stateLength) (marksAt ws) (replicate mostGates 0)
 
-abbrev pub noState : Counts → Held
-noState k = record { fits = false; outline = outlineOf zeroPlan; counts = k }
+-- what the words of a plan hold
+abbrev pub noPlan : Outlined
+noPlan = record { fits = false; outline = outlineOf zeroPlan }
 
--- what any words hold
+abbrev pub outlineThere : List ℕ → Outlined
+outlineThere ws = pick (lookupThere ws) (record { fits = true; outline = outlineAt ws }) noPlan
+
+unfoldable pub outlinedAt : List ℕ → Outlined
+outlinedAt ws = pick (eqb (length ws) planLength) (outlineThere ws) noPlan
+
+-- and those of a state
+abbrev pub heldWith : Outlined → Counts → Held
+heldWith p k = record { fits = p .fits; outline = p .outline; counts = k }
+
 unfoldable pub heldAt : List ℕ → Held
-heldAt ws =
-    pick (eqb (length ws) stateLength)
-    (pick (lookupThere ws) (record { fits = true; outline = outlineAt ws; counts = countsAt ws }) (noState (countsAt ws)))
-    (noState (zeroIntake .counts))
+heldAt ws = pick (eqb (length ws) stateLength) (heldWith (outlineThere ws) (countsAt ws)) (heldWith noPlan (zeroIntake .counts))
+
+-- ---- what words hold that hold a plan
+pub record Plans (ws : List ℕ) (p : Outlined) : Type 0 where
+  pub long : length ws ≡ planLength
+  pub parts : planIn (p .outline) (gatesIn ws) (nodesIn ws) ≡ planOf ws
+
+pub plans : (ws : List ℕ) (p : Outlined) → p ≡ outlinedAt ws → p .fits ≡ true → Plans ws p
+unfolding outlinedAt
+plans ws p e f = by (ℕ-discrete (length ws) planLength) (lookupThere ws) refl
+  where
+    none : p ≡ noPlan → Plans ws p
+    none z = absurd (true≢false (sym f ∙ ap (λ (x : Outlined). x .fits) z))
+
+    by : Dec (length ws ≡ planLength) → (t : Bool) → lookupThere ws ≡ t → Plans ws p
+    by (no d) t l = none (e ∙ rw (ne-eqb (length ws) planLength d))
+    by (yes k) false l = none (e ∙ rw (eq-eqb (length ws) planLength k, l))
+    by (yes k) true l =
+        let z : p ≡ record { fits = true; outline = outlineAt ws } = e ∙ rw (eq-eqb (length ws) planLength k, l) in
+        record { long = k; parts = rw z (plan-read ws k l) }
+
+-- words that hold none encode the plan of zeros
+pub plans-none : (ws : List ℕ) (p : Outlined) → p ≡ outlinedAt ws → p .fits ≡ false → zeroPlan ≡ planOf ws
+unfolding outlinedAt
+plans-none ws p e f = by (ℕ-discrete (length ws) planLength) (lookupThere ws) refl
+  where
+    by : Dec (length ws ≡ planLength) → (t : Bool) → lookupThere ws ≡ t → zeroPlan ≡ planOf ws
+    by (no d) t l = plan-other ws d
+    by (yes k) false l = plan-none ws k l
+    by (yes k) true l =
+        let y : p ≡ record { fits = true; outline = outlineAt ws } = e ∙ rw (eq-eqb (length ws) planLength k, l) in
+        absurd (true≢false (sym (ap (λ (x : Outlined). x .fits) y) ∙ f))
 
 -- ---- the plan's words are the first of a state's
 module _ (ws : List ℕ) (e : length ws ≡ stateLength) where
@@ -135,7 +175,7 @@ pub holds : (ws : List ℕ) (h : Held) → h ≡ heldAt ws → h .fits ≡ true 
 unfolding heldAt
 holds ws h e f = by (ℕ-discrete (length ws) stateLength) (lookupThere ws) refl
   where
-    none : (k : Counts) → h ≡ noState k → Holds ws h
+    none : (k : Counts) → h ≡ heldWith noPlan k → Holds ws h
     none k z = absurd (true≢false (sym f ∙ ap (λ (x : Held). x .fits) z))
 
     by : Dec (length ws ≡ stateLength) → (t : Bool) → lookupThere ws ≡ t → Holds ws h
@@ -152,10 +192,10 @@ holds-none ws h e f = by (ℕ-discrete (length ws) stateLength) (lookupThere ws)
   where
     by : Dec (length ws ≡ stateLength) → (t : Bool) → lookupThere ws ≡ t → withState zeroPlan (stateIn (h .counts) (marksRead ws)) ≡ intakeOf ws
     by (no d) t l =
-        let z : h ≡ noState (zeroIntake .counts) = e ∙ rw (ne-eqb (length ws) stateLength d) in
+        let z : h ≡ heldWith noPlan (zeroIntake .counts) = e ∙ rw (ne-eqb (length ws) stateLength d) in
         rw (z, ne-eqb (length ws) stateLength d) (state-other ws d)
     by (yes k) false l =
-        let z : h ≡ noState (countsAt ws) = e ∙ rw (eq-eqb (length ws) stateLength k, l) in
+        let z : h ≡ heldWith noPlan (countsAt ws) = e ∙ rw (eq-eqb (length ws) stateLength k, l) in
         rw (z, eq-eqb (length ws) stateLength k) (no-mode-parts ws k l)
     by (yes k) true l =
         let y : h ≡ record { fits = true; outline = outlineAt ws; counts = countsAt ws } = e ∙ rw (eq-eqb (length ws) stateLength k, l) in

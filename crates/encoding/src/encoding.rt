@@ -4,11 +4,9 @@ ghost use Prim.Native.Nat.{_+_, _≤_};
 ghost use lib.ListN.{length};
 ghost use lib.Seq.{paste};
 ghost use Rattle.parameters.specs.Lookup.{flagOf};
-ghost use Rattle.encoding.specs.Encoding.{handed, intakeWords, lookupFits, marksAt, planOf, planWords, progressIn, progressed};
-use columns::intake::Intake;
+ghost use Rattle.encoding.specs.Encoding.{handed, lookupFits, marksAt, planWords, progressIn, progressed};
 use columns::take::Counts;
 use parameters::parameters::PARAMETER_WORDS;
-use parameters::parameters::parameters_at;
 use selector::GATE_SLOTS;
 use selector::MOST_GATES;
 use selector::Marks;
@@ -91,38 +89,6 @@ fn flag_of(share: bool) -> u64
     0
 }
 
-// The plan that the words encode; words that encode none, or are not as many, are a plan of zeros.
-pub fn decode_plan(words: &[u64]) -> Plan
-    ensures { λ r. ⌜ r ≡ planOf (now (words .entry)) ⌝ }
-{
-    if words.len() != PLAN_WORDS {
-        return Plan::zero();
-    }
-    let parameters = parameters_at(words);
-    if lookup_fits(parameters.mode, parameters.width, parameters.share) {
-        let mut gates = [0; GATE_SLOTS];
-        copy_words(&words[GATES_FROM..COUNT_AT], 0, &mut gates);
-        let mut nodes = [0; NODE_SLOTS];
-        copy_words(&words[NODES_FROM..TAIL_FROM], 0, &mut nodes);
-        return Plan {
-            trace: parameters.trace,
-            copy: parameters.copy,
-            allowed: parameters.allowed,
-            specialised: parameters.specialised,
-            variables: parameters.variables,
-            lookup: parameters.lookup(),
-            gates: gates,
-            gate_count: words[COUNT_AT],
-            nodes: nodes,
-            node_count: words[TAIL_FROM],
-            degree: words[TAIL_FROM + 1],
-            constants: words[TAIL_FROM + 2],
-            factor: words[TAIL_FROM + 3],
-        };
-    }
-    Plan::zero()
-}
-
 // The words of a plan go to the front of a slice; one that is too short keeps all its words.
 pub fn encode_plan(plan: Plan, words: &mut [u64])
     ensures { λ _. ⌜ now (words .exit) ≡ handed (planWords plan) (now (words .entry)) ⌝ }
@@ -185,16 +151,4 @@ pub fn encode_counts(counts: Counts, words: &mut [u64])
         copy_words(&tally, COUNTS_FROM, words);
         words[PHASE_AT] = counts.phase;
     }
-}
-
-// The words of a state go to the front of a slice; one that is too short keeps all its words.
-pub fn encode_state(state: Intake, words: &mut [u64])
-    ensures { λ _. ⌜ now (words .exit) ≡ handed (intakeWords state) (now (words .entry)) ⌝ }
-{
-    if words.len() < STATE_WORDS {
-        return;
-    }
-    encode_plan(state.plan, words);
-    let used = state.used;
-    encode_progress(state.counts, used, words);
 }

@@ -1,4 +1,4 @@
-// Plans by value: the test for a made-up plan, which is also there for a plan's parts, paths, what rows need of the gates, and the table-id index.
+// Plans: the test for a made-up plan, paths, what rows need of the gates, and the table-id index, each of a plan's parts, which are lent; the same of a plan by value.
 ghost use mathlib.Core.Path.{_≡_};
 ghost use Rattle.parameters.specs.Lookup.{flagOf};
 ghost use Rattle.tree.specs.Plan.{zeroPlan, parametersIn, outlineOf, planIn, planFault, pathAnswer, gateRowsAnswer, tableIdAnswer};
@@ -10,7 +10,6 @@ use crate::paths::all_placements;
 use crate::paths::output_placement;
 use crate::refusals::extra_of;
 use crate::refusals::gates_number;
-use crate::refusals::words_fit;
 use parameters::lookup::LookupParameters;
 use parameters::parameters::Parameters;
 use selector::GATE_SLOTS;
@@ -172,6 +171,67 @@ pub fn parts_rows<'a>(outline: Outline, gates: &'a [u64], nodes: &'a [u64]) -> G
     }
 }
 
+// The path of a gate in a plan, from its parts.
+pub fn parts_path<'a>(outline: Outline, gates: &'a [u64], nodes: &'a [u64], gate: u64) -> Path
+    ensures { λ r. ⌜ r ≡ pathAnswer (planIn outline (now (gates .entry)) (now (nodes .entry))) gate ⌝ }
+{
+    if parts_fault(outline, gates, nodes) != 0 {
+        return Path {
+            number: 19,
+            bits: 0,
+            length: 0,
+        };
+    }
+    if outline.gate_count <= gate {
+        return Path {
+            number: 12,
+            bits: 0,
+            length: 0,
+        };
+    }
+    let found = output_placement(nodes, outline.node_count as usize, 0, gate, MOST_LEVELS);
+    Path {
+        number: 0,
+        bits: found.bits,
+        length: found.length,
+    }
+}
+
+// The index of a plan's table-id column, from its parts.
+pub fn parts_table_id<'a>(outline: Outline, gates: &'a [u64], nodes: &'a [u64]) -> TableId
+    ensures { λ r. ⌜ r ≡ tableIdAnswer (planIn outline (now (gates .entry)) (now (nodes .entry))) ⌝ }
+{
+    let path = parts_path(outline, gates, nodes, 0);
+    if path.number != 0 {
+        return TableId {
+            number: 19,
+            count: 0,
+            index: 0,
+        };
+    }
+    let lookup = outline.lookup;
+    let mode = lookup.mode();
+    if mode == 2 {
+        return TableId {
+            number: 0,
+            count: 1,
+            index: path.length,
+        };
+    }
+    if mode == 4 {
+        return TableId {
+            number: 0,
+            count: 1,
+            index: outline.told.constants,
+        };
+    }
+    TableId {
+        number: 0,
+        count: 0,
+        index: 0,
+    }
+}
+
 impl Plan {
     // The plan of zeros that a refusal hands back.
     pub fn zero() -> Self
@@ -230,61 +290,17 @@ impl Plan {
     pub fn path(self, gate: u64) -> Path
         ensures { λ r. ⌜ r ≡ pathAnswer self gate ⌝ }
     {
-        if self.fault() != 0 {
-            return Path {
-                number: 19,
-                bits: 0,
-                length: 0,
-            };
-        }
-        if self.gate_count <= gate {
-            return Path {
-                number: 12,
-                bits: 0,
-                length: 0,
-            };
-        }
+        let gates = self.gates;
         let nodes = self.nodes;
-        let found = output_placement(&nodes, self.node_count as usize, 0, gate, MOST_LEVELS);
-        Path {
-            number: 0,
-            bits: found.bits,
-            length: found.length,
-        }
+        parts_path(self.outline(), &gates, &nodes, gate)
     }
 
     // The index of the table-id column: in mode 2 the lookup path's length, in mode 4 K, else there is none. 19 first.
     pub fn table_id(self) -> TableId
         ensures { λ r. ⌜ r ≡ tableIdAnswer self ⌝ }
     {
-        let path = self.path(0);
-        if path.number != 0 {
-            return TableId {
-                number: 19,
-                count: 0,
-                index: 0,
-            };
-        }
-        let lookup = self.lookup;
-        let mode = lookup.mode();
-        if mode == 2 {
-            return TableId {
-                number: 0,
-                count: 1,
-                index: path.length,
-            };
-        }
-        if mode == 4 {
-            return TableId {
-                number: 0,
-                count: 1,
-                index: self.constants,
-            };
-        }
-        TableId {
-            number: 0,
-            count: 0,
-            index: 0,
-        }
+        let gates = self.gates;
+        let nodes = self.nodes;
+        parts_table_id(self.outline(), &gates, &nodes)
     }
 }
