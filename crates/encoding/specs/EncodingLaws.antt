@@ -171,7 +171,7 @@ handed-front new old h =
 pub handed-short : (new old : List ℕ) → length old < length new → old ≡ handed new old
 handed-short new old h = sym (rw (lt-leb (length new) (length old) h))
 
-pub handed-long : (new old : List ℕ) (n : ℕ) → length new ≡ n → n ≤ length old → new ++ drop n old ≡ handed new old
+handed-long : (new old : List ℕ) (n : ℕ) → length new ≡ n → n ≤ length old → new ++ drop n old ≡ handed new old
 handed-long new old n e h =
     let k : length new ≤ length old = omega arith in
     ap (λ (j : ℕ). new ++ drop j old) (sym e) ∙ sym (rw (le-leb (length new) (length old) k))

@@ -171,7 +171,7 @@ pub fn parts_rows<'a>(outline: Outline, gates: &'a [u64], nodes: &'a [u64]) -> G
     }
 }
 
-// The path of a gate in a plan, from its parts.
+// The path of a gate in a plan, from its parts: 19 first, then 12 for a gate that is not listed. A dropped gate's path is empty.
 pub fn parts_path<'a>(outline: Outline, gates: &'a [u64], nodes: &'a [u64], gate: u64) -> Path
     ensures { λ r. ⌜ r ≡ pathAnswer (planIn outline (now (gates .entry)) (now (nodes .entry))) gate ⌝ }
 {
@@ -197,7 +197,7 @@ pub fn parts_path<'a>(outline: Outline, gates: &'a [u64], nodes: &'a [u64], gate
     }
 }
 
-// The index of a plan's table-id column, from its parts.
+// The index of a plan's table-id column, from its parts: in mode 2 the lookup path's length, in mode 4 K, else there is none. 19 first.
 pub fn parts_table_id<'a>(outline: Outline, gates: &'a [u64], nodes: &'a [u64]) -> TableId
     ensures { λ r. ⌜ r ≡ tableIdAnswer (planIn outline (now (gates .entry)) (now (nodes .entry))) ⌝ }
 {
@@ -286,7 +286,7 @@ impl Plan {
         parts_fault(self.outline(), &gates, &nodes)
     }
 
-    // The path of a gate: 19 first, then 12 for a gate that is not listed. A dropped gate's path is empty.
+    // The path of a gate.
     pub fn path(self, gate: u64) -> Path
         ensures { λ r. ⌜ r ≡ pathAnswer self gate ⌝ }
     {
@@ -295,7 +295,7 @@ impl Plan {
         parts_path(self.outline(), &gates, &nodes, gate)
     }
 
-    // The index of the table-id column: in mode 2 the lookup path's length, in mode 4 K, else there is none. 19 first.
+    // The index of the table-id column.
     pub fn table_id(self) -> TableId
         ensures { λ r. ⌜ r ≡ tableIdAnswer self ⌝ }
     {
