@@ -41,18 +41,7 @@ nodesIn ws = take nodeSlots (drop nodesFrom ws)
 
 -- the plan without them
 abbrev pub outlineAt : List ℕ → Outline
-outlineAt ws =
-    record {
-      trace = parametersAt ws .trace;
-      copy = parametersAt ws .copy;
-      allowed = parametersAt ws .allowed;
-      specialised = parametersAt ws .specialised;
-      variables = parametersAt ws .variables;
-      lookup = lookupOf (parametersAt ws);
-      «gate_count» = getD ws countAt 0;
-      «node_count» = getD ws tailFrom 0;
-      told = record { degree = getD ws (tailFrom + 1) 0; constants = getD ws (tailFrom + 2) 0; factor = getD ws (tailFrom + 3) 0 };
-    }
+outlineAt ws = outlineOf (planAt ws)
 
 abbrev pub marksRead : List ℕ → List ℕ
 marksRead ws = pick (eqb (length ws) stateLength) (marksAt ws) (replicate mostGates 0)
