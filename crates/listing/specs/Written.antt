@@ -3,20 +3,20 @@
 -- Main definitions: `written`, `Sound`. Main statements: `read-written` (what is written is read back), `read-sound` (what is read can be written).
 use mathlib.Core.Path.{_≡_, refl, sym, ap, _∙_, subst}
 use mathlib.Core.Bool.{true, false}
-use mathlib.Core.List.{List, [], _∷_, _++_, append-assoc, append-nil}
+use mathlib.Core.List.{List, [], _∷_, _++_, append-assoc}
 use mathlib.Core.Option.{Option, none, some, bind}
-use Prim.Native.Nat.{ℕ, zero, suc, _+_, _-_, _*_, _/_, _≤_, _<_}
+use Prim.Native.Nat.{ℕ, zero, suc, _+_, _*_, _/_, _≤_}
 use native.Mathlib.Nat.{not-suc-le-zero, mul-div-cancel}
 use native.Mathlib.Decide.{decLe, ℕ-discrete}
 use native.Mathlib.Omega.{arith}
 use lib.ListN.{drop, length, length-append, length-drop, take, take-append-drop}
 use lib.Seq.{drop-at, length-take-le, take-at}
-use lib.Dec.{leb, eqb}
+use lib.Dec.{leb}
 use borrow.Author.Tests.{le-leb, lt-leb, eq-eqb, ne-eqb}
 use Rattle.base.specs.Pick.{pick}
 use Rattle.parameters.specs.Parameters.{parameterWords}
 use Rattle.selector.specs.Gates.{gateWords}
-use Rattle.pieces.specs.Records.{Read, whole, cut, readBy, rowSize, tableSize, rowsOf, tablesOf}
+use Rattle.pieces.specs.Records.{whole, cut, readBy, rowSize, tableSize, rowsOf, tablesOf}
 use Rattle.base.specs.Each.{Each}
 use Rattle.pieces.specs.RecordLaws.{Whole}
 use Rattle.listing.specs.Listing.{Taken, off, after, records, section, fixed, headed, Words, eight, ended, sixSections, orTwenty, read}

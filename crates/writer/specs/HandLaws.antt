@@ -1,14 +1,16 @@
 -- The answers of a call that hands out words: refused, too short a result slice, handed out.
 --
--- Main statements: `handed-front`, `handed-short`; `hand-refused`, `hand-short`, `hand-given`; `answer-refused`, `answer-short`, `answer-given`.
+-- Main statements: `handed-front`, `handed-short`, `handed-long`, `handed-whole`; `hand-refused`, `hand-short`, `hand-given`; `answer-refused`, `answer-short`, `answer-given`.
 use Prim.Native.Nat.{_<_, _≤_, ℕ}
 use borrow.Author.Tests.{eq-eqb, le-leb, lt-leb, ne-eqb}
 use lib.Dec.{eqb, leb}
 use lib.ListN.{drop, length}
-use mathlib.Core.List.{List, _++_}
+use lib.Seq.{drop-length}
+use mathlib.Core.List.{List, _++_, append-nil}
 use mathlib.Core.Logic.{_≢_}
 use mathlib.Core.Path.{_∙_, _≡_, ap, sym}
 use native.Mathlib.Nat.{zero-add}
+use native.Mathlib.Omega.{arith}
 use Rattle.base.specs.Firsts.{first-found, first-none}
 use Rattle.base.specs.Pick.{pick, pick-no, pick-yes}
 use Rattle.writer.specs.Put.{put, putIf}
@@ -25,8 +27,15 @@ handed-front new old =
 pub handed-short : (new old : List ℕ) → length old < length new → old ≡ handed new old
 handed-short new old h = sym (rw (lt-leb (length new) (length old) h))
 
-pub handed-long : (new old : List ℕ) → length new ≤ length old → new ++ drop (length new) old ≡ handed new old
-handed-long new old h = sym (pick-yes (leb (length new) (length old)) (new ++ drop (length new) old) old (le-leb (length new) (length old) h))
+pub handed-long : (new old : List ℕ) (n : ℕ) → length new ≡ n → n ≤ length old → new ++ drop n old ≡ handed new old
+handed-long new old n e h =
+    let k : length new ≤ length old = omega arith in
+    ap (λ (j : ℕ). new ++ drop j old) (sym e) ∙ sym (rw (le-leb (length new) (length old) k))
+
+-- a slice that is just as long holds what was handed, and nothing else
+pub handed-whole : (new old : List ℕ) → length new ≡ length old → handed new old ≡ new
+handed-whole new old e =
+    sym (handed-long new old (length old) e (omega arith)) ∙ ap (λ (l : List ℕ). new ++ l) (drop-length old) ∙ append-nil new
 
 module _ (n : ℕ) (new out : List ℕ) where
   -- ---- number and words left
