@@ -1,7 +1,7 @@
 -- Laws of the sections' numbers. Once opening is accepted and while each call is, the state stands and every buffer stays long enough, so that a call's number is
 -- its own section's and reads no buffer.
 --
--- Main definition: `Ready`. Main statements: `first-append`, `first-pieces`, `run-pieces`, `number-open`, `number-pieces`, `number-last`, `finish-tested`.
+-- Main definition: `Ready`. Main statements: `first-append`, `first-pieces`, `run-pieces`, `number-19`, `number-10`, `number-contents`, `finish-tested`.
 use mathlib.Core.Path.{_≡_, refl, sym, ap, _∙_}
 use mathlib.Core.Logic.{_≢_}
 use mathlib.Core.Bool.{Bool, true, false}
@@ -16,6 +16,7 @@ use Rattle.base.specs.Firsts.{orNumber, first-none, first-found, first-zero}
 use Rattle.base.specs.Pick.{pick, pick-zero}
 use Rattle.base.specs.Tables.{table-length}
 use Rattle.labels.specs.Labels.{representativesOf, labelOf}
+use Rattle.tree.specs.Plan.{planFault}
 use Rattle.tree.specs.declared.plan.Plan.{Plan}
 use Rattle.pieces.specs.Setting.{Setting, State, Store, Held, Cols, constantRoom, copyRoom, scratchRoom, tableRoom, specialRoom, mostTables, isOpened, countsFit, stands}
 use Rattle.pieces.specs.Records.{Read, rowsOf, tablesOf}
@@ -33,7 +34,8 @@ use Rattle.pieces.specs.CellLaws.{run-copies, cells-room}
 use Rattle.pieces.specs.FaultLaws.{rows-room, words-room, tables-room, no-tables}
 use Rattle.pieces.specs.ClosedForms.{cleared-long}
 use Rattle.columns.specs.Intake.{settingOf}
-use Rattle.columns.specs.Sections.{firstRefusal, sections, piecesFault, afterPieces, lastTests, finishTested, sectionsNumber}
+use Rattle.columns.specs.IntakeLaws.{open-19, open-10, open-own}
+use Rattle.columns.specs.Sections.{firstRefusal, sections, piecesFault, afterPieces, lastTests, finishTested, sectionsNumber, contentsNumber}
 
 -- ---- the first refusal of a list
 pub or-under : (f a b : ℕ) → (f ≡ 0 → a ≡ b) → orNumber f a ≡ orNumber f b
@@ -50,7 +52,7 @@ or-nothing a = go (ℕ-discrete a 0)
     go (yes z) = first-none a 0 z ∙ sym z
     go (no d) = first-found a 0 d
 
-or-assoc : (a b c : ℕ) → orNumber (orNumber a b) c ≡ orNumber a (orNumber b c)
+pub or-assoc : (a b c : ℕ) → orNumber (orNumber a b) c ≡ orNumber a (orNumber b c)
 or-assoc a b c = go (ℕ-discrete a 0)
   where
     go : Dec (a ≡ 0) → orNumber (orNumber a b) c ≡ orNumber a (orNumber b c)
@@ -332,7 +334,7 @@ unfolding openNumber
 opened-sound x b e = pick-zero (x .sound) (pick (roomToOpen x b) (x .labelled) 10) 19 (λ z. omega arith) e .0
 
 module _ (x : Setting) (b : Store) (r s c t : List ℕ) where
-  pub number-open : openNumber x b ≢ 0 → openNumber x b ≡ sectionsNumber x b r s c t
+  number-open : openNumber x b ≢ 0 → openNumber x b ≡ sectionsNumber x b r s c t
   unfolding sectionsNumber
   number-open d = sym (first-found (openNumber x b) _ d)
 
@@ -340,13 +342,13 @@ module _ (x : Setting) (b : Store) (r s c t : List ℕ) where
     ready : Ready x (fresh x b)
     ready = fresh-ready x b (opened-sound x b o) l
 
-    pub number-pieces : piecesFault x r s c t ≢ 0 → piecesFault x r s c t ≡ sectionsNumber x b r s c t
+    number-pieces : piecesFault x r s c t ≢ 0 → piecesFault x r s c t ≡ sectionsNumber x b r s c t
     unfolding sectionsNumber
     number-pieces d =
         let e = first-pieces x b r s c t ready in
         sym (first-none (openNumber x b) _ o ∙ first-found (firstRefusal x (sections r s c t) (fresh x b)) _ (λ z. d (sym e ∙ z)) ∙ e)
 
-    pub number-last : piecesFault x r s c t ≡ 0 → lastTests x (afterPieces r s c t) ≡ sectionsNumber x b r s c t
+    number-last : piecesFault x r s c t ≡ 0 → lastTests x (afterPieces r s c t) ≡ sectionsNumber x b r s c t
     unfolding sectionsNumber
     number-last z =
         let e = first-pieces x b r s c t ready in
@@ -354,6 +356,41 @@ module _ (x : Setting) (b : Store) (r s c t : List ℕ) where
         let d = first-zero _ _ (a .1) in
         let f = first-zero _ _ (d .1) in
         sym (first-none (openNumber x b) _ o ∙ first-none (firstRefusal x (sections r s c t) (fresh x b)) _ (e ∙ z) ∙ last-pieces x b r s c t ready (a .0) (d .0) (f .0) (f .1))
+
+-- ---- by its three parts: 19, 10, then what is wrong with the circuit itself
+module _ (q : Plan) (b : Store) (r s c t : List ℕ) where
+  abbrev o : Setting
+  o = settingOf q
+
+  pub number-19 : planFault q ≢ 0 → 19 ≡ sectionsNumber o b r s c t
+  number-19 d =
+      let e = open-19 q b d in
+      sym e ∙ number-open o b r s c t (λ z. omega (arith, e, z))
+
+  module _ (f : planFault q ≡ 0) where
+    pub number-10 : roomToOpen o b ≡ false → 10 ≡ sectionsNumber o b r s c t
+    number-10 h =
+        let e = open-10 q b f h in
+        sym e ∙ number-open o b r s c t (λ z. omega (arith, e, z))
+
+    pub number-contents : roomToOpen o b ≡ true → contentsNumber o r s c t ≡ sectionsNumber o b r s c t
+    unfolding contentsNumber
+    number-contents h = go (ℕ-discrete (o .labelled) 0)
+      where
+        e : openNumber o b ≡ o .labelled
+        e = open-own q b f h
+
+        -- the labels of the code's plan fill its copy columns
+        long : length (o .labels) ≡ copyRoom o
+        long = table-length (q .copy * q .trace) (labelOf (q .trace) (representativesOf (q .trace) (q .copy)))
+
+        later : o .labelled ≡ 0 → Dec (piecesFault o r s c t ≡ 0) → orNumber (piecesFault o r s c t) (lastTests o (afterPieces r s c t)) ≡ sectionsNumber o b r s c t
+        later z (yes k) = first-none _ _ k ∙ number-last o b r s c t (e ∙ z) long k
+        later z (no d) = first-found _ _ d ∙ number-pieces o b r s c t (e ∙ z) long d
+
+        go : Dec (o .labelled ≡ 0) → orNumber (o .labelled) (orNumber (piecesFault o r s c t) (lastTests o (afterPieces r s c t))) ≡ sectionsNumber o b r s c t
+        go (yes z) = first-none (o .labelled) _ z ∙ later z (ℕ-discrete (piecesFault o r s c t) 0)
+        go (no d) = first-found (o .labelled) _ d ∙ sym e ∙ number-open o b r s c t (λ z. d (sym e ∙ z))
 
 -- the last tests read the three counts and the marks alone
 pub last-same : (x : Setting) (r s c t : List ℕ) (a : State) → a .rowCount ≡ 0 + length (rowsOf r) → a .wordCount ≡ length s → a .cellCount ≡ length c
@@ -363,10 +400,6 @@ last-same x r s c t a e f g u =
     let y : 0 + length s ≡ length s = omega arith in
     let z : 0 + length c ≡ length c = omega arith in
     rw (e, f, g, u, y, z)
-
--- the labels of the code's plan fill its copy columns
-pub labels-long : (q : Plan) → length (settingOf q .labels) ≡ copyRoom (settingOf q)
-labels-long q = table-length (q .copy * q .trace) (labelOf (q .trace) (representativesOf (q .trace) (q .copy)))
 
 -- a finishing that is not refused with 18 is refused by the other tests alone
 pub finish-tested : (x : Setting) (h : Held) → finishNumber x (h .state) (h .store .cells) ≢ 18 → finishNumber x (h .state) (h .store .cells) ≡ finishTested x h

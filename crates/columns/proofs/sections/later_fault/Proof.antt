@@ -15,13 +15,13 @@ use Rattle.columns.proofs.sections.later_fault.Statement.{statement}
 use Rattle.columns.proofs.sections.later_fault.Tie as tie
 
 fine : (s : tie.Start) → Sound (s .args .plan)
-fine s = sound (s .args .plan) (s .pre)
+fine s = sound (s .args .plan) (s .pre .0)
 
 mul-s-words-fault : tie.Need-mul-s-words-fault
-mul-s-words-fault c = let w = fine (c .before .before .before .before) in omega (arith, mul-le-mul (w .special) (w .ranges .long))
+mul-s-words-fault c = let s = c .before .before .before .before in omega (arith, mul-le-mul (fine s .special) (s .pre .1))
 
 s-words-fault-requires : tie.Need-s-words-fault-requires
-s-words-fault-requires c κs = let w = fine (c .before .before .before .before) in (omega arith, omega (arith, mul-le-mul (w .special) (w .ranges .long)))
+s-words-fault-requires c κs = let s = c .before .before .before .before in (omega arith, omega (arith, mul-le-mul (fine s .special) (s .pre .1)))
 
 returns : tie.Need-returns
 returns c =
@@ -29,10 +29,10 @@ returns c =
     e ∙ sym (first-found _ _ (λ z. c .if1 .taken (e ∙ z)))
 
 mul-cells-fault : tie.Need-mul-cells-fault
-mul-cells-fault c = let w = fine (c .before .before .before .before .before .before .before) in omega (arith, mul-le-mul (w .ranges .columns) (w .ranges .long))
+mul-cells-fault c = let s = c .before .before .before .before .before .before .before in omega (arith, mul-le-mul (fine s .ranges .columns) (s .pre .1))
 
 cells-fault-requires : tie.Need-cells-fault-requires
-cells-fault-requires c κs = let w = fine (c .before .before .before .before .before .before .before) in (omega arith, omega (arith, mul-le-mul (w .ranges .columns) (w .ranges .long)))
+cells-fault-requires c κs = let s = c .before .before .before .before .before .before .before in (omega arith, omega (arith, mul-le-mul (fine s .ranges .columns) (s .pre .1)))
 
 returns-2 : tie.Need-returns-2
 returns-2 c =
