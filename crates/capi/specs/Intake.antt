@@ -15,7 +15,8 @@ use Rattle.columns.specs.declared.take.Marked.{Marked}
 use Rattle.pieces.specs.Opening.{openState}
 use Rattle.pieces.specs.Setting.{Store}
 use Rattle.tree.specs.Plan.{planFault, zeroPlan}
-use Rattle.encoding.specs.Encoding.{handed, intakeWords, marksAt, planOf, progressIn, progressOf, progressed, stateLength}
+use Rattle.writer.specs.Hand.{handed}
+use Rattle.encoding.specs.Encoding.{intakeWords, marksAt, planOf, progressIn, progressOf, progressed, stateLength}
 
 -- "Open: 19; 10; 9 candidates reach p." The state's slice is tested just before the columns.
 unfoldable pub openCall : List ℕ → List ℕ → Store → ℕ

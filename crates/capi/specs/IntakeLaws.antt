@@ -31,10 +31,12 @@ use Rattle.pieces.specs.Setting.{Cols, State, Store, stands}
 use Rattle.pieces.specs.Tables.{tablesNumber, tablesState}
 use Rattle.tree.specs.Plan.{planFault, zeroPlan}
 use Rattle.tree.specs.declared.plan.Plan.{Plan}
-use Rattle.encoding.specs.Encoding.{handed, intakeOf, intakeWords, marksAt, planOf, planWords, progressIn, progressOf, progressed, stateLength}
+use Rattle.writer.specs.Hand.{handed}
+use Rattle.encoding.specs.Encoding.{intakeOf, intakeWords, marksAt, planOf, planWords, progressIn, progressOf, progressed, stateLength}
 use Rattle.encoding.specs.Held.{Holds, gatesIn, heldAt, holds, marksRead, nodesIn, none-fault}
 use Rattle.encoding.specs.declared.held.Held.{Held}
-use Rattle.encoding.specs.EncodingLaws.{handed-short, plan-there, sound-again, state-length, state-progressed, state-written}
+use Rattle.writer.specs.HandLaws.{handed-short}
+use Rattle.encoding.specs.EncodingLaws.{plan-there, sound-again, state-length, state-progressed, state-written}
 use Rattle.selector.specs.Gates.{gateSlots}
 use Rattle.base.specs.Limits.{mostGates}
 use Rattle.selector.specs.Nodes.{nodeSlots}

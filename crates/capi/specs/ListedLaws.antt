@@ -8,7 +8,8 @@ use lib.ListN.{drop, length}
 use mathlib.Core.List.{List, _++_}
 use mathlib.Core.Path.{_∙_, _≡_, ap, sym}
 use Rattle.base.specs.Pick.{pick, pick-no, pick-yes}
-use Rattle.encoding.specs.Encoding.{handed, planLength, planWords}
+use Rattle.writer.specs.Hand.{handed}
+use Rattle.encoding.specs.Encoding.{planLength, planWords}
 use Rattle.listing.specs.Listing.{read}
 use Rattle.selector.specs.Gates.{gateSlots}
 use Rattle.selector.specs.Nodes.{nodeSlots}

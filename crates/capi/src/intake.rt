@@ -22,12 +22,12 @@ use encoding::encoding::STATE_WORDS;
 use encoding::encoding::TAIL_FROM;
 use encoding::encoding::encode_counts;
 use encoding::encoding::encode_progress;
-use encoding::encoding::hand;
 use encoding::held::held_at;
 use encoding::held::marks_of;
 use encoding::held::outlined_at;
 use selector::MOST_GATES;
 use tree::plan::parts_fault;
+use writer::hand::hand;
 
 // The number of a call. Where it is accepted the state's counts and phase are written. The words of the
 // plan are there, since no call after opening changes the plan, and the marks stay.

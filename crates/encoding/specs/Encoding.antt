@@ -1,6 +1,6 @@
 -- Plans and states as words: "A plan or state is the struct's words in a fixed order; words that encode none, or of the wrong length, are a made-up one: 19."
 --
--- Main definitions: `planLength`, `stateLength`, `planWords`, `planOf`, `intakeWords`, `intakeOf`; `handed`, `progressed`.
+-- Main definitions: `planLength`, `stateLength`, `planWords`, `planOf`, `intakeWords`, `intakeOf`; `progressed`.
 use Prim.Native.Nat.{_+_, _-_, ℕ}
 use lib.Dec.{eqb, leb}
 use lib.ListN.{drop, getD, length, take}
@@ -17,10 +17,6 @@ use Rattle.selector.specs.Gates.{gateSlots}
 use Rattle.selector.specs.Nodes.{nodeSlots}
 use Rattle.tree.specs.Plan.{zeroPlan}
 use Rattle.tree.specs.declared.plan.Plan.{Plan}
-
--- "A result slice that is too short is 10 and nothing is written." Words of a result slice beyond the named ones keep their values.
-abbrev pub handed : List ℕ → List ℕ → List ℕ
-handed new old = pick (leb (length new) (length old)) (new ++ drop (length new) old) old
 
 -- where the parts of a plan's words stand: the parameters first, then the gates, their count, the nodes, the tail
 abbrev pub gatesFrom : ℕ

@@ -5,13 +5,12 @@ use Prim.Native.Nat.{_+_, _<_, _≤_, suc, ℕ}
 use borrow.Author.Tests.{eq-eqb, eqb-true, le-leb, leb-true, lt-leb, ne-eqb}
 use lib.Dec.{eqb, leb}
 use lib.ListN.{drop, getD, length, length-append, length-drop, length-replicate, replicate, set, take, take-append-drop}
-use lib.Seq.{drop-append-add, drop-cons, drop-drop, drop-length, getD-append-add, getD-at, length-take-le, paste, set-at, take-at, take-length}
+use lib.Seq.{drop-append-add, drop-cons, drop-drop, drop-length, getD-append-add, getD-at, length-take-le, set-at, take-at, take-length}
 use mathlib.Core.Bool.{Bool, false, true}
-use mathlib.Core.List.{List, [], _++_, _∷_, append-assoc, append-nil}
+use mathlib.Core.List.{List, [], _++_, _∷_, append-assoc}
 use mathlib.Core.Logic.{_≢_}
 use mathlib.Core.Path.{_∙_, _≡_, ap, refl, sym}
 use native.Mathlib.Decide.{decLe, ℕ-discrete}
-use native.Mathlib.Nat.{zero-add}
 use native.Mathlib.Numerals.{add-one}
 use native.Mathlib.Omega.{arith}
 use Rattle.base.specs.Limits.{mostGates}
@@ -29,7 +28,11 @@ use Rattle.tree.specs.Plan.{parametersOf, planFault, zeroPlan}
 use Rattle.tree.specs.PlanLaws.{zero-fault}
 use Rattle.tree.specs.declared.plan.Plan.{Plan}
 use Rattle.columns.specs.Intake.{zeroIntake}
-use Rattle.encoding.specs.Encoding.{countAt, countsFrom, countsLength, gatesFrom, handed, headWords, intakeAt, intakeOf, intakeWords, lookupFits, lookupThere, marksAt, nodesFrom, phaseAt, planAt, planLength, planOf, planWords, progressLength, progressOf, progressWords, progressed, stateLength, tailFrom, tailLength, tailWords, usedFrom}
+use Rattle.writer.specs.Hand.{handed}
+use Rattle.writer.specs.HandLaws.{handed-long, handed-short, handed-whole}
+use Rattle.writer.specs.Put.{put, putIf}
+use Rattle.writer.specs.PutLaws.{put-fits}
+use Rattle.encoding.specs.Encoding.{countAt, countsFrom, countsLength, gatesFrom, headWords, intakeAt, intakeOf, intakeWords, lookupFits, lookupThere, marksAt, nodesFrom, phaseAt, planAt, planLength, planOf, planWords, progressLength, progressOf, progressWords, progressed, stateLength, tailFrom, tailLength, tailWords, usedFrom}
 
 -- ---- the lookup mode
 fits-each : (l : LookupParameters) → lookupFits (modeOf l) (widthOf l) (flagOf (shareOf l)) ≡ true
@@ -149,9 +152,10 @@ module _ (s : Intake) (g : length (s .plan .gates) ≡ gateSlots) (n : length (s
       pick-yes (eqb (length (intakeWords s)) stateLength) _ zeroIntake (eq-eqb (length (intakeWords s)) stateLength state-length) ∙ state-fields
 
 -- ---- what the writing functions leave
--- a list over the words of another that follow those already written
-paste-on : (done xs old : List ℕ) (at : ℕ) → length done ≡ at → paste (done ++ drop at old) at xs (length xs) ≡ (done ++ xs) ++ drop (at + length xs) old
-paste-on done xs old at e =
+-- words put behind those already written
+put-on : (done xs old : List ℕ) (at : ℕ) → length done ≡ at → put at xs (done ++ drop at old) ≡ (done ++ xs) ++ drop (at + length xs) old
+unfolding put
+put-on done xs old at e =
     rw (take-at done (drop at old) at e, take-length xs)
     (ap (λ (l : List ℕ). done ++ xs ++ l) (part-drop done (drop at old) at (length xs) e ∙ drop-drop (length xs) at old))
 
@@ -162,20 +166,6 @@ set-on done old at w e h =
     ∙ set-at done (getD old at 0) (drop (suc at) old) w at e
     ∙ rw add-one (sym (append-assoc done (w ∷ []) (drop (suc at) old)))
 
-pub handed-front : (new old : List ℕ) → length new ≤ length old → paste old 0 new (length new) ≡ handed new old
-handed-front new old h =
-    ap (λ (k : ℕ). take (length new) new ++ drop k old) (zero-add (length new))
-    ∙ ap (λ (l : List ℕ). l ++ drop (length new) old) (take-length new)
-    ∙ sym (pick-yes (leb (length new) (length old)) (new ++ drop (length new) old) old (le-leb (length new) (length old) h))
-
-pub handed-short : (new old : List ℕ) → length old < length new → old ≡ handed new old
-handed-short new old h = sym (rw (lt-leb (length new) (length old) h))
-
-handed-long : (new old : List ℕ) (n : ℕ) → length new ≡ n → n ≤ length old → new ++ drop n old ≡ handed new old
-handed-long new old n e h =
-    let k : length new ≤ length old = omega arith in
-    ap (λ (j : ℕ). new ++ drop j old) (sym e) ∙ sym (rw (le-leb (length new) (length old) k))
-
 pub progressed-short : (new old : List ℕ) → length old < stateLength → progressed new old ≡ old
 progressed-short new old h = rw (lt-leb stateLength (length old) h)
 
@@ -184,9 +174,12 @@ two-long : (xs ys : List ℕ) (a b : ℕ) → length xs ≡ a → length ys ≡ 
 two-long xs ys a b e f = omega (arith, length-append xs ys)
 
 -- a part more
-paste-next : (done xs old w : List ℕ) (at n : ℕ) → length done ≡ at → length xs ≡ n → w ≡ done ++ drop at old → paste w at xs (length xs) ≡ (done ++ xs) ++ drop (at + n) old
-paste-next done xs old w at n e f k =
-    ap (λ (l : List ℕ). paste l at xs (length xs)) k ∙ paste-on done xs old at e ∙ ap (λ (j : ℕ). (done ++ xs) ++ drop (at + j) old) f
+part-next : (done xs old w : List ℕ) (at n : ℕ) → length done ≡ at → length xs ≡ n → at + n ≤ length old → w ≡ done ++ drop at old → putIf at xs w ≡ (done ++ xs) ++ drop (at + n) old
+part-next done xs old w at n e f h k =
+    ap (putIf at xs) k
+    ∙ put-fits at xs (done ++ drop at old) (omega (arith, length-append done (drop at old), length-drop at old))
+    ∙ put-on done xs old at e
+    ∙ ap (λ (j : ℕ). (done ++ xs) ++ drop (at + j) old) f
 
 set-next : (done old w : List ℕ) (at x : ℕ) → length done ≡ at → at < length old → w ≡ done ++ drop at old → set w at x ≡ (done ++ (x ∷ [])) ++ drop (at + 1) old
 set-next done old w at x e h k = ap (λ (l : List ℕ). set l at x) k ∙ set-on done old at x e h
@@ -219,18 +212,18 @@ module _ (q : Plan) (old : List ℕ) (g : length (q .gates) ≡ gateSlots) (n : 
 
   pub plan-written : (m w f : ℕ) → m ≡ modeOf (q .lookup) → w ≡ widthOf (q .lookup) → f ≡ flagOf (shareOf (q .lookup))
       → (a b d e : List ℕ)
-      → a ≡ paste old 0 (q .trace ∷ q .copy ∷ q .allowed ∷ q .specialised ∷ q .variables ∷ m ∷ w ∷ f ∷ []) parameterWords
-      → b ≡ paste a gatesFrom (q .gates) (length (q .gates))
-      → d ≡ paste (set b countAt (q .«gate_count»)) nodesFrom (q .nodes) (length (q .nodes))
-      → e ≡ paste d tailFrom (tailWords q) tailLength
+      → a ≡ putIf 0 (q .trace ∷ q .copy ∷ q .allowed ∷ q .specialised ∷ q .variables ∷ m ∷ w ∷ f ∷ []) old
+      → b ≡ putIf gatesFrom (q .gates) a
+      → d ≡ putIf nodesFrom (q .nodes) (set b countAt (q .«gate_count»))
+      → e ≡ putIf tailFrom (tailWords q) d
       → e ≡ handed (planWords q) old
   plan-written m w f em ew ef a b d e ea eb ed ee =
-      let ea2 : a ≡ paste old 0 (headWords q) parameterWords = rw (em, ew, ef) at ea in
-      let fa : a ≡ headWords q ++ drop gatesFrom old = ea2 ∙ paste-next [] (headWords q) old old 0 parameterWords refl refl refl in
-      let fb : b ≡ head-gates ++ drop countAt old = eb ∙ paste-next (headWords q) (q .gates) old a gatesFrom gateSlots refl g fa in
+      let ea2 : a ≡ putIf 0 (headWords q) old = rw (em, ew, ef) at ea in
+      let fa : a ≡ headWords q ++ drop gatesFrom old = ea2 ∙ part-next [] (headWords q) old old 0 parameterWords refl refl (omega arith) refl in
+      let fb : b ≡ head-gates ++ drop countAt old = eb ∙ part-next (headWords q) (q .gates) old a gatesFrom gateSlots refl g (omega arith) fa in
       let fc : set b countAt (q .«gate_count») ≡ to-count ++ drop nodesFrom old = set-next head-gates old b countAt (q .«gate_count») long-gates (omega arith) fb in
-      let fd : d ≡ to-nodes ++ drop tailFrom old = ed ∙ paste-next to-count (q .nodes) old (set b countAt (q .«gate_count»)) nodesFrom nodeSlots long-count n fc in
-      let fe : e ≡ (to-nodes ++ tailWords q) ++ drop planLength old = ee ∙ paste-next to-nodes (tailWords q) old d tailFrom tailLength long-nodes refl fd in
+      let fd : d ≡ to-nodes ++ drop tailFrom old = ed ∙ part-next to-count (q .nodes) old (set b countAt (q .«gate_count»)) nodesFrom nodeSlots long-count n (omega arith) fc in
+      let fe : e ≡ (to-nodes ++ tailWords q) ++ drop planLength old = ee ∙ part-next to-nodes (tailWords q) old d tailFrom tailLength long-nodes refl (omega arith) fd in
       fe ∙ ap (λ (l : List ℕ). l ++ drop planLength old) in-parts ∙ handed-long (planWords q) old planLength (plan-length q g n) h
 
 -- what a state has besides its plan, part after part
@@ -250,11 +243,11 @@ module _ (rows words cells tables stacked phase : ℕ) (used old : List ℕ) (u 
   long-used : length to-used ≡ phaseAt
   long-used = two-long to-counts used usedFrom mostGates long-counts u
 
-  pub progress-written : (a b : List ℕ) → a ≡ paste old countsFrom five countsLength → b ≡ paste a usedFrom used (length used)
+  pub progress-written : (a b : List ℕ) → a ≡ putIf countsFrom five old → b ≡ putIf usedFrom used a
       → set b phaseAt phase ≡ progressed (progressWords rows words cells tables stacked used phase) old
   progress-written a b ea eb =
-      let fa : a ≡ to-counts ++ drop usedFrom old = ea ∙ paste-next (take planLength old) five old old countsFrom countsLength (length-take-le planLength old (omega arith)) refl (sym (take-append-drop planLength old)) in
-      let fb : b ≡ to-used ++ drop phaseAt old = eb ∙ paste-next to-counts used old a usedFrom mostGates long-counts u fa in
+      let fa : a ≡ to-counts ++ drop usedFrom old = ea ∙ part-next (take planLength old) five old old countsFrom countsLength (length-take-le planLength old (omega arith)) refl (omega arith) (sym (take-append-drop planLength old)) in
+      let fb : b ≡ to-used ++ drop phaseAt old = eb ∙ part-next to-counts used old a usedFrom mostGates long-counts u (omega arith) fa in
       let new = progressWords rows words cells tables stacked used phase in
       let parts = append-assoc to-counts used (phase ∷ []) ∙ append-assoc (take planLength old) five (used ++ (phase ∷ [])) in
       set-next to-used old b phaseAt phase long-used (omega arith) fb
@@ -263,14 +256,14 @@ module _ (rows words cells tables stacked phase : ℕ) (used old : List ℕ) (u 
       ∙ sym (pick-yes (leb stateLength (length old)) (take planLength old ++ (new ++ drop stateLength old)) old (le-leb stateLength (length old) h))
 
   -- where the marks are those that stand there, writing them is writing nothing
-  pub counts-written : used ≡ marksAt old → (a : List ℕ) → a ≡ paste old countsFrom five countsLength → set a phaseAt phase ≡ progressed (progressWords rows words cells tables stacked used phase) old
+  pub counts-written : used ≡ marksAt old → (a : List ℕ) → a ≡ putIf countsFrom five old → set a phaseAt phase ≡ progressed (progressWords rows words cells tables stacked used phase) old
   counts-written eu a ea =
-      let fa : a ≡ to-counts ++ drop usedFrom old = ea ∙ paste-next (take planLength old) five old old countsFrom countsLength (length-take-le planLength old (omega arith)) refl (sym (take-append-drop planLength old)) in
+      let fa : a ≡ to-counts ++ drop usedFrom old = ea ∙ part-next (take planLength old) five old old countsFrom countsLength (length-take-le planLength old (omega arith)) refl (omega arith) (sym (take-append-drop planLength old)) in
       let rest : used ++ drop phaseAt old ≡ drop usedFrom old =
       ap (λ (l : List ℕ). l ++ drop phaseAt old) eu ∙ ap (λ (l : List ℕ). marksAt old ++ l) (sym (drop-drop mostGates usedFrom old)) ∙ take-append-drop mostGates (drop usedFrom old) in
-      let stay : paste a usedFrom used (length used) ≡ a =
-      paste-next to-counts used old a usedFrom mostGates long-counts u fa ∙ append-assoc to-counts used (drop phaseAt old) ∙ ap (λ (l : List ℕ). to-counts ++ l) rest ∙ sym fa in
-      ap (λ (l : List ℕ). set l phaseAt phase) (sym stay) ∙ progress-written a (paste a usedFrom used (length used)) ea refl
+      let stay : putIf usedFrom used a ≡ a =
+      part-next to-counts used old a usedFrom mostGates long-counts u (omega arith) fa ∙ append-assoc to-counts used (drop phaseAt old) ∙ ap (λ (l : List ℕ). to-counts ++ l) rest ∙ sym fa in
+      ap (λ (l : List ℕ). set l phaseAt phase) (sym stay) ∙ progress-written a (putIf usedFrom used a) ea refl
 
 -- and a state, the plan first
 module _ (s : Intake) (old : List ℕ) (g : length (s .plan .gates) ≡ gateSlots) (n : length (s .plan .nodes) ≡ nodeSlots) (u : length (s .used) ≡ mostGates) where
@@ -301,11 +294,6 @@ module _ (s : Intake) (old : List ℕ) (g : length (s .plan .gates) ≡ gateSlot
           progressed-short (progressOf s) old h ∙ handed-short (intakeWords s) old k
 
 -- ---- what the reading functions answer
-paste-all : (xs old : List ℕ) → length xs ≡ length old → paste old 0 xs (length xs) ≡ xs
-paste-all xs old e =
-    ap (λ (k : ℕ). take (length xs) xs ++ drop k old) (zero-add (length xs))
-    ∙ ap (λ (l : List ℕ). l ++ drop (length xs) old) (take-length xs) ∙ ap (λ (k : ℕ). xs ++ drop k old) e ∙ ap (λ (l : List ℕ). xs ++ l) (drop-length old) ∙ append-nil xs
-
 pub plan-other : (ws : List ℕ) → length ws ≢ planLength → zeroPlan ≡ planOf ws
 unfolding planOf
 plan-other ws d = sym (pick-no (eqb (length ws) planLength) _ zeroPlan (ne-eqb (length ws) planLength d))
@@ -329,10 +317,10 @@ unfolding intakeOf
 state-read ws e = sym (pick-yes (eqb (length ws) stateLength) (intakeAt ws) zeroIntake (eq-eqb (length ws) stateLength e))
 
 -- a part of the words in an array of zeros that is as long
-pub part-read : (ws : List ℕ) (at n : ℕ) → at + n ≤ length ws → paste (replicate n 0) 0 (take n (drop at ws)) (length (take n (drop at ws))) ≡ take n (drop at ws)
+pub part-read : (ws : List ℕ) (at n : ℕ) → at + n ≤ length ws → handed (take n (drop at ws)) (replicate n 0) ≡ take n (drop at ws)
 part-read ws at n h =
     let e = length-take-le n (drop at ws) (omega (arith, length-drop at ws)) in
-    paste-all (take n (drop at ws)) (replicate n 0) (e ∙ sym (length-replicate n 0))
+    handed-whole (take n (drop at ws)) (replicate n 0) (e ∙ sym (length-replicate n 0))
 
 -- ---- words that are decoded and encoded again
 -- the lookup mode of three words that fit answers for them

@@ -6,7 +6,8 @@ use mathlib.Core.List.{[], _++_, _∷_}
 use mathlib.Core.Path.{_≡_, refl}
 use Rattle.tree.specs.Plan.{zeroPlan}
 use Rattle.columns.specs.Intake.{zeroIntake}
-use Rattle.encoding.specs.Encoding.{handed, intakeWords, lookupFits, planLength, planWords, progressLength, progressOf, progressed, stateLength}
+use Rattle.writer.specs.Hand.{handed}
+use Rattle.encoding.specs.Encoding.{intakeWords, lookupFits, planLength, planWords, progressLength, progressOf, progressed, stateLength}
 
 -- mode 0 holds no width and no flag; there is no mode 5 and no flag 2
 modes : (lookupFits 0 0 0 ≡ true) × (lookupFits 0 1 0 ≡ false) × (lookupFits 0 0 1 ≡ false) × (lookupFits 4 9 1 ≡ true) × (lookupFits 4 9 2 ≡ false) × (lookupFits 5 9 1 ≡ false)

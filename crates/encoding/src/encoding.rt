@@ -1,10 +1,8 @@
 // Plans and states as words, in the order of their fields.
 ghost use mathlib.Core.Path.{_≡_};
-ghost use Prim.Native.Nat.{_+_, _≤_};
-ghost use lib.ListN.{length};
-ghost use lib.Seq.{paste};
 ghost use Rattle.parameters.specs.Lookup.{flagOf};
-ghost use Rattle.encoding.specs.Encoding.{handed, lookupFits, marksAt, planWords, progressIn, progressed};
+ghost use Rattle.writer.specs.Hand.{handed};
+ghost use Rattle.encoding.specs.Encoding.{lookupFits, marksAt, planWords, progressIn, progressed};
 use columns::take::Counts;
 use parameters::parameters::PARAMETER_WORDS;
 use selector::GATE_SLOTS;
@@ -12,6 +10,7 @@ use selector::MOST_GATES;
 use selector::Marks;
 use selector::NODE_SLOTS;
 use tree::plan::Plan;
+use writer::put::put_words;
 
 // Where the parts of a plan's words stand: parameters and lookup mode first, then gates, their count, nodes, the rest.
 pub const GATES_FROM: usize = PARAMETER_WORDS;
@@ -38,27 +37,6 @@ pub const USED_FROM: usize = COUNTS_FROM + COUNTS_LENGTH;
 pub const PHASE_AT: usize = USED_FROM + MOST_GATES;
 
 pub const STATE_WORDS: usize = PHASE_AT + 1;
-
-// The words of a slice go into another, from `at` on.
-pub(crate) fn copy_words(from: &[u64], at: usize, to: &mut [u64])
-    requires { ⌜ at + length (now from) ≤ length (now to) ⌝ }
-    ensures { λ _. ⌜ now (to .exit) ≡ paste (now (to .entry)) at (now (from .entry)) (length (now (from .entry))) ⌝ }
-{
-    let mut i: usize = 0;
-    while i < from.len() {
-        to[at + i] = from[i];
-        i = i + 1;
-    }
-}
-
-// Words go to the front of a result slice; one that is too short keeps all its words.
-pub fn hand(words: &[u64], out: &mut [u64])
-    ensures { λ _. ⌜ now (out .exit) ≡ handed (now (words .entry)) (now (out .entry)) ⌝ }
-{
-    if words.len() <= out.len() {
-        copy_words(words, 0, out);
-    }
-}
 
 // Whether some lookup mode has this number, width and flag.
 pub(crate) fn lookup_fits(mode: u64, width: u64, flag: u64) -> bool
@@ -107,14 +85,14 @@ pub fn encode_plan(plan: Plan, words: &mut [u64])
         lookup.lookup_width(),
         flag_of(lookup.share_table_id()),
     ];
-    copy_words(&head, 0, words);
+    put_words(&head, 0, words);
     let gates = plan.gates;
-    copy_words(&gates, GATES_FROM, words);
+    put_words(&gates, GATES_FROM, words);
     words[COUNT_AT] = plan.gate_count;
     let nodes = plan.nodes;
-    copy_words(&nodes, NODES_FROM, words);
+    put_words(&nodes, NODES_FROM, words);
     let tail = [plan.node_count, plan.degree, plan.constants, plan.factor];
-    copy_words(&tail, TAIL_FROM, words);
+    put_words(&tail, TAIL_FROM, words);
 }
 
 // What a call changes of a state goes behind the words of its plan, which stay; a slice that is too
@@ -130,8 +108,8 @@ pub fn encode_progress(counts: Counts, used: Marks, words: &mut [u64])
             counts.tables,
             counts.table_rows,
         ];
-        copy_words(&five, COUNTS_FROM, words);
-        copy_words(&used, USED_FROM, words);
+        put_words(&five, COUNTS_FROM, words);
+        put_words(&used, USED_FROM, words);
         words[PHASE_AT] = counts.phase;
     }
 }
@@ -148,7 +126,7 @@ pub fn encode_counts(counts: Counts, words: &mut [u64])
             counts.tables,
             counts.table_rows,
         ];
-        copy_words(&tally, COUNTS_FROM, words);
+        put_words(&tally, COUNTS_FROM, words);
         words[PHASE_AT] = counts.phase;
     }
 }

@@ -12,7 +12,6 @@ use crate::encoding::PLAN_WORDS;
 use crate::encoding::STATE_WORDS;
 use crate::encoding::TAIL_FROM;
 use crate::encoding::USED_FROM;
-use crate::encoding::copy_words;
 use crate::encoding::lookup_fits;
 use columns::take::Counts;
 use columns::take::NEVER;
@@ -22,6 +21,7 @@ use selector::Marks;
 use tree::plan::Outline;
 use tree::plan::Plan;
 use tree::plan::Told;
+use writer::hand::hand;
 
 // Whether the words are as many as a plan's, with some lookup mode's words among them, and then the outline of the
 // plan, else zeros.
@@ -140,7 +140,7 @@ pub fn marks_of(words: &[u64]) -> Marks
 {
     let mut used = [0; MOST_GATES];
     if words.len() == STATE_WORDS {
-        copy_words(&words[USED_FROM..PHASE_AT], 0, &mut used);
+        hand(&words[USED_FROM..PHASE_AT], &mut used);
     }
     used
 }

@@ -4,4 +4,5 @@ pub mod Places
 pub mod Cursor
 pub mod EndLaws
 pub mod ReaderLaws
+pub mod Written
 pub mod Worked

@@ -9,7 +9,8 @@ use Rattle.base.specs.Pick.{pick-no, pick-yes}
 use Rattle.columns.specs.Intake.{withState}
 use Rattle.pieces.specs.Opening.{openState}
 use Rattle.tree.specs.Plan.{zeroPlan}
-use Rattle.encoding.specs.Encoding.{handed, progressOf, progressed, stateLength}
+use Rattle.writer.specs.Hand.{handed}
+use Rattle.encoding.specs.Encoding.{progressOf, progressed, stateLength}
 use Rattle.capi.specs.Intake.{openedWords}
 use Rattle.capi.proofs.intake.give_opened.Statement.{statement}
 use Rattle.capi.proofs.intake.give_opened.Tie as tie

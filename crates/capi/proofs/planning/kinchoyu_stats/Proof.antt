@@ -9,7 +9,8 @@ use Rattle.tree.specs.PlanLaws.{zero-fault}
 use Rattle.tree.specs.declared.plan.Plan.{Plan}
 use Rattle.encoding.specs.Encoding.{planOf}
 use Rattle.encoding.specs.Held.{Plans, gatesIn, nodesIn, plans, plans-none}
-use Rattle.capi.specs.Planning.{handLeft, handNumber, statsWords}
+use Rattle.writer.specs.Hand.{handLeft, handNumber}
+use Rattle.capi.specs.Planning.{statsWords}
 use Rattle.capi.specs.PlanningLaws.{none-handed}
 use Rattle.capi.proofs.planning.kinchoyu_stats.Statement.{statement}
 use Rattle.capi.proofs.planning.kinchoyu_stats.Tie as tie

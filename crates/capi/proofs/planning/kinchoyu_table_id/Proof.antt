@@ -8,7 +8,8 @@ use Rattle.tree.specs.PlanLaws.{zero-fault}
 use Rattle.tree.specs.declared.plan.TableId.{TableId}
 use Rattle.encoding.specs.Encoding.{planOf}
 use Rattle.encoding.specs.Held.{Plans, plans, plans-none}
-use Rattle.capi.specs.Planning.{handLeft, handNumber, idWords}
+use Rattle.writer.specs.Hand.{handLeft, handNumber}
+use Rattle.capi.specs.Planning.{idWords}
 use Rattle.capi.specs.PlanningLaws.{id-none, none-handed}
 use Rattle.capi.proofs.planning.kinchoyu_table_id.Statement.{statement}
 use Rattle.capi.proofs.planning.kinchoyu_table_id.Tie as tie

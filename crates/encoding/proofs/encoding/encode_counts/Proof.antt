@@ -11,17 +11,17 @@ use Rattle.encoding.specs.EncodingLaws.{counts-written, progressed-short
 use Rattle.encoding.proofs.encoding.encode_counts.Statement.{statement}
 use Rattle.encoding.proofs.encoding.encode_counts.Tie as tie
 
-slice-aggregate-copy-words : tie.Need-slice-aggregate-copy-words
-slice-aggregate-copy-words c = search needs
+slice-aggregate-put-words : tie.Need-slice-aggregate-put-words
+slice-aggregate-put-words c = search needs
 
-copy-words-requires : tie.Need-copy-words-requires
-copy-words-requires c κs = search needs
+put-words-requires : tie.Need-put-words-requires
+put-words-requires c κs = search needs
 
 slice-write-words : tie.Need-slice-write-words
 slice-write-words c = search needs
 
 same-length : tie.Need-same-length
-same-length c = length-set (c .before .before .copy-words .last .1 .1 .0) phaseAt (c .before .before .before .before .before .before .before .args .counts .phase) ∙ c .before .before .copy-words .kept .1 .1 .0
+same-length c = length-set (c .before .before .put-words .last .1 .1 .0) phaseAt (c .before .before .before .before .before .before .before .args .counts .phase) ∙ c .before .before .put-words .kept .1 .1 .0
 
 -- as many marks stand there as a state has
 marks-long : (c : tie.Then1) → length (marksAt (c .before .before .args .words .now)) ≡ mostGates
@@ -34,7 +34,7 @@ returns c =
     let a = c .before .before .before .before .before .before .before .args in
     let k = a .counts in
     counts-written (k .rows) (k .«s_words») (k .cells) (k .tables) (k .«table_rows») (k .phase) (marksAt (a .words .now)) (a .words .now) (marks-long (c .before .before .before .before .before)) (c .before .before .before .before .before .if1 .taken)
-    refl _ (c .before .before .copy-words .ensures)
+    refl _ (c .before .before .put-words .ensures)
 
 returns-2 : tie.Need-returns-2
 returns-2 c =
@@ -45,8 +45,8 @@ pub encode-counts-spec : {M : Type 1} → statement M
 encode-counts-spec =
     tie.close
     (tie.spec
-    slice-aggregate-copy-words
-    copy-words-requires
+    slice-aggregate-put-words
+    put-words-requires
     slice-write-words
     same-length
     returns

@@ -13,31 +13,31 @@ use Rattle.encoding.proofs.encoding.encode_progress.Tie as tie
 used-long : (c : tie.Start) → length (c .args .t2) ≡ mostGates
 used-long c = search needs
 
-slice-aggregate-copy-words : tie.Need-slice-aggregate-copy-words
-slice-aggregate-copy-words c = search needs
+slice-aggregate-put-words : tie.Need-slice-aggregate-put-words
+slice-aggregate-put-words c = search needs
 
-copy-words-requires : tie.Need-copy-words-requires
-copy-words-requires c κs = search needs
+put-words-requires : tie.Need-put-words-requires
+put-words-requires c κs = search needs
 
-slice-aggregate-copy-words-2 : tie.Need-slice-aggregate-copy-words-2
-slice-aggregate-copy-words-2 c = search needs
+slice-aggregate-put-words-2 : tie.Need-slice-aggregate-put-words-2
+slice-aggregate-put-words-2 c = search needs
 
-copy-words-requires-2 : tie.Need-copy-words-requires-2
-copy-words-requires-2 c κs = search needs
+put-words-requires-2 : tie.Need-put-words-requires-2
+put-words-requires-2 c κs = search needs
 
 slice-write-words : tie.Need-slice-write-words
 slice-write-words c = search needs
 
 same-length : tie.Need-same-length
 same-length c =
-    length-set (c .before .before .copy-words2 .last .1 .1 .0) phaseAt (c .before .before .before .before .before .before .before .before .before .before .before .before .args .counts .phase) ∙ c .before .before .copy-words2 .kept .1 .1 .0 ∙ c .before .before .before .before .before .before .before .copy-words .kept .1 .1 .0
+    length-set (c .before .before .put-words2 .last .1 .1 .0) phaseAt (c .before .before .before .before .before .before .before .before .before .before .before .before .args .counts .phase) ∙ c .before .before .put-words2 .kept .1 .1 .0 ∙ c .before .before .before .before .before .before .before .put-words .kept .1 .1 .0
 
 returns : tie.Need-returns
 returns c =
     let a = c .before .before .before .before .before .before .before .before .before .before .before .before .args in
     let k = a .counts in
     progress-written (k .rows) (k .«s_words») (k .cells) (k .tables) (k .«table_rows») (k .phase) (a .t2) (a .words .now) (used-long (c .before .before .before .before .before .before .before .before .before .before .before .before)) (c .before .before .before .before .before .before .before .before .before .before .if1 .taken)
-    _ _ (c .before .before .before .before .before .before .before .copy-words .ensures) (c .before .before .copy-words2 .ensures)
+    _ _ (c .before .before .before .before .before .before .before .put-words .ensures) (c .before .before .put-words2 .ensures)
 
 returns-2 : tie.Need-returns-2
 returns-2 c =
@@ -48,10 +48,10 @@ pub encode-progress-spec : {M : Type 1} → statement M
 encode-progress-spec =
     tie.close
     (tie.spec
-    slice-aggregate-copy-words
-    copy-words-requires
-    slice-aggregate-copy-words-2
-    copy-words-requires-2
+    slice-aggregate-put-words
+    put-words-requires
+    slice-aggregate-put-words-2
+    put-words-requires-2
     slice-write-words
     same-length
     returns

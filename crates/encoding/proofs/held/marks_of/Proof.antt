@@ -13,25 +13,25 @@ use lib.Dec.{eqb}
 use Rattle.encoding.proofs.held.marks_of.Statement.{statement}
 use Rattle.encoding.proofs.held.marks_of.Tie as tie
 
-sub-copy-words : tie.Need-sub-copy-words
-sub-copy-words c = search needs
+sub-hand : tie.Need-sub-hand
+sub-hand c = search needs
 
-part-copy-words-start : tie.Need-part-copy-words-start
-part-copy-words-start c = search needs
+part-hand-start : tie.Need-part-hand-start
+part-hand-start c = search needs
 
-part-copy-words-end : tie.Need-part-copy-words-end
-part-copy-words-end c = search needs
+part-hand-end : tie.Need-part-hand-end
+part-hand-end c = search needs
 
-slice-aggregate-copy-words : tie.Need-slice-aggregate-copy-words
-slice-aggregate-copy-words c = search needs
+slice-aggregate-hand : tie.Need-slice-aggregate-hand
+slice-aggregate-hand c = search needs
 
-copy-words-requires : tie.Need-copy-words-requires
-copy-words-requires c κs = search needs
+hand-requires : tie.Need-hand-requires
+hand-requires c κs = search needs
 
 returns : tie.Need-returns
 returns c =
     let ws = c .before .before .before .before .before .before .args .words .now in
-    c .before .copy-words .ensures ∙ part-read ws usedFrom mostGates (omega (arith, c .before .before .before .before .if1 .taken))
+    c .before .hand .ensures ∙ part-read ws usedFrom mostGates (omega (arith, c .before .before .before .before .if1 .taken))
     ∙ sym (pick-yes (eqb (length ws) stateLength) (marksAt ws) (replicate mostGates 0) (eq-eqb (length ws) stateLength (c .before .before .before .before .if1 .taken)))
 
 returns-2 : tie.Need-returns-2
@@ -43,10 +43,10 @@ pub marks-of-spec : {M : Type 1} → statement M
 marks-of-spec =
     tie.close
     (tie.spec
-    sub-copy-words
-    part-copy-words-start
-    part-copy-words-end
-    slice-aggregate-copy-words
-    copy-words-requires
+    sub-hand
+    part-hand-start
+    part-hand-end
+    slice-aggregate-hand
+    hand-requires
     returns
     returns-2)

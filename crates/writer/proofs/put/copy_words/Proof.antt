@@ -1,4 +1,4 @@
--- `encoding::copy_words` meets its contract: after i turns the first i words are copied.
+-- `put::copy_words` meets its contract: after i turns the first i words are copied.
 -- Assumes nothing.
 use Prim.Native.Nat.{_-_, _≤_}
 use lib.ListN.{length}
@@ -6,8 +6,9 @@ use lib.Seq.{length-paste, paste, paste-suc, paste-zero}
 use mathlib.Core.Path.{_∙_, _≡_, ap}
 use native.Mathlib.Numerals.{add-one}
 use native.Mathlib.Omega.{arith}
-use Rattle.encoding.proofs.encoding.copy_words.Statement.{statement}
-use Rattle.encoding.proofs.encoding.copy_words.Tie as tie
+use Rattle.writer.specs.Put.{put}
+use Rattle.writer.proofs.put.copy_words.Statement.{statement}
+use Rattle.writer.proofs.put.copy_words.Tie as tie
 
 abbrev Inv-loop : tie.InvT-loop
 Inv-loop from at to₀ i₀ to i = (i ≤ length from) × (to ≡ paste to₀ at from i)
@@ -55,6 +56,7 @@ same-length c =
     ap length (l .inv .1) ∙ length-paste (a .to .now) (a .at) (a .from .now) (l .i) (omega arith) (l .inv .0)
 
 returns : tie.Need-returns Inv-loop μ-loop
+unfolding put
 returns c =
     let l = c .before .loop in
     let a = c .before .before .args in

@@ -1,10 +1,10 @@
--- `planning::hand_unless` meets its contract: refused, too short, handed out.
+-- `hand::hand_unless` meets its contract: refused, too short, handed out.
 -- Assumes nothing.
 use borrow.Author.Needs.{needs}
 use mathlib.Core.Path.{_∙_}
-use Rattle.capi.specs.PlanningLaws.{hand-given, hand-refused, hand-short}
-use Rattle.capi.proofs.planning.hand_unless.Statement.{statement}
-use Rattle.capi.proofs.planning.hand_unless.Tie as tie
+use Rattle.writer.specs.HandLaws.{hand-given, hand-refused, hand-short}
+use Rattle.writer.proofs.hand.hand_unless.Statement.{statement}
+use Rattle.writer.proofs.hand.hand_unless.Tie as tie
 
 returns : tie.Need-returns
 returns c =
