@@ -3,7 +3,7 @@ use crate::circuit::Circuit;
 use crate::compare::{compare, Verdict};
 use crate::figures::Figures;
 use crate::random::Random;
-use crate::{differences, exhaustive, faults, generate, program, record};
+use crate::{differences, exhaustive, faults, generate, padding, program, record};
 
 /// Prints a circuit that the judges do not agree on; false, for the exit status.
 pub fn report(circuit: &Circuit, what: &str) -> bool {
@@ -64,6 +64,7 @@ pub fn command(arguments: &[&str]) -> Option<bool> {
         ["exhaustive"] => Some(exhaustive::run()),
         ["differences"] => Some(differences::run()),
         ["faults", count, seed] => Some(faults::run(number(count), number(seed))),
+        ["pad", count, seed] => Some(padding::run(number(count), number(seed))),
         ["program", path, count, seed] => Some(program::run(path, number(count), number(seed))),
         ["record", folder, seed] => {
             record::run(folder, number(seed));
