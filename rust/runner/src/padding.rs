@@ -7,17 +7,11 @@ use crate::differences::{cases, padded_cases, Rust};
 use crate::faults::sayable;
 use crate::generate;
 use crate::random::Random;
-use crate::unpadded;
+use crate::unpadded::{self, shared};
 use model::field::P;
 use model::listing::{sections, Sections};
 use oracle::Outcome;
 use std::collections::{BTreeMap, BTreeSet};
-
-/// 02: "where a specialised column of height N exists or N is at most the rows plus one".
-pub fn shared(x: &Circuit) -> bool {
-    let [n, _, _, s, _, mode, ..] = x.parameters;
-    s >= 1 || mode >= 3 || n <= x.rows.len() as u64 + 1
-}
 
 /// Whether so many columns were given, and each begins with the words that were given of it.
 fn columns_begin(many: u64, given: &[u64], from: u64, padded: &[u64], length: u64) -> bool {

@@ -7,6 +7,13 @@ use model::field::P;
 
 const MARKER: [u64; 3] = [1, 0, 0];
 
+/// Whether the original looks at N: "where a specialised column of height N exists or N is at most
+/// the rows plus one".
+pub fn shared(x: &Circuit) -> bool {
+    let [n, _, _, s, _, mode, ..] = x.parameters;
+    s >= 1 || mode >= 3 || n <= x.rows.len() as u64 + 1
+}
+
 /// A number around `n`, one of its ends as often as any between 0 and twice as many.
 fn around(r: &mut Random, n: u64) -> u64 {
     r.ends(&[0, n - 1, n, n + 1], 0, 2 * n)
