@@ -5,7 +5,7 @@
 //!   driver every-word                 good plans and states with each word changed in turn
 //!   driver plans                      all short gate lists; plans that no planning gives
 //!   driver ends                       the ends of what is taken
-//!   driver largest                    the largest circuit of each mode
+//!   driver largest                    the largest circuit of each mode, whole and padded
 //!
 //! Every word of every buffer is compared after every call. Fails at the first difference, with
 //! the seed and the number of the circuit: `random 1 SEED NUMBER` makes that one alone. Built
@@ -112,11 +112,21 @@ fn random(figures: &mut Figures, count: u64, seed: u64, first: u64) -> Result<()
     }
 }
 
+/// Whole, and without its last row, which padding has to bring.
+fn largest_one(figures: &mut Figures, mode: u64) -> Result<(), String> {
+    let mut r = Random::new(mode);
+    let mut x = generate::corner(&mut r, mode);
+    one(&mut r, figures, &x)?;
+    x.rows.pop();
+    match padding::whole(&mut r, figures, &x)? {
+        0 => Ok(()),
+        number => Err(format!("padding was refused: {number}")),
+    }
+}
+
 fn largest(figures: &mut Figures) -> Result<(), String> {
     (0..5).try_for_each(|mode| {
-        let mut r = Random::new(mode);
-        let x = generate::corner(&mut r, mode);
-        one(&mut r, figures, &x).map_err(|what| format!("mode {mode}: {what}"))
+        largest_one(figures, mode).map_err(|what| format!("mode {mode}: {what}"))
     })
 }
 

@@ -5,7 +5,7 @@ use crate::circuit::Circuit;
 use crate::compare::{difference, modelled};
 use crate::differences::{cases, padded_cases, Rust};
 use crate::faults::sayable;
-use crate::generate;
+use crate::generate::{self, Size};
 use crate::random::Random;
 use crate::unpadded::{self, shared};
 use model::field::P;
@@ -48,6 +48,15 @@ fn padded_difference(x: &Circuit, words: &[u64], padded: &[u64], cores: usize) -
         Outcome::Made(o) => difference(&made, &o),
         Outcome::Panicked(message) => Some(format!("the original panicked: {message}")),
         Outcome::Malformed => Some("the oracle took no listing".to_string()),
+    }
+}
+
+/// As `padded_difference`, of a circuit that has to be padded.
+pub fn whole_difference(x: &Circuit) -> Option<String> {
+    let words = x.listing();
+    match model::pad(&words) {
+        Ok(padded) => padded_difference(x, &words, &padded, 1),
+        Err(number) => Some(format!("padding is refused: {number}")),
     }
 }
 
@@ -96,13 +105,14 @@ fn cause(x: &Circuit) -> &'static str {
 }
 
 impl Figures {
-    fn accept(&mut self, x: &Circuit) {
+    fn accept(&mut self, x: &Circuit, length: u64) {
         *(if shared(x) { &mut self.both } else { &mut self.alone }) += 1;
         *self.by_mode.entry(x.parameters[5]).or_default() += 1;
         *self.by_cause.entry(cause(x)).or_default() += 1;
         let first = x.gates.iter().position(|gate| gate[0] == 1).map(|gate| gate as u64);
         let marks = [
             ("N = 0", x.parameters[0] == 0),
+            ("length 65,536", length == 65536),
             ("more rows than N", x.rows.len() as u64 > x.parameters[0]),
             ("no row of the first kind 1 gate", x.rows.iter().all(|row| Some(row[0]) != first)),
             ("kind 1 twice or more", x.gates.iter().filter(|gate| gate[0] == 1).count() > 1),
@@ -136,7 +146,7 @@ fn taken() -> BTreeSet<u64> {
 
 /// A circuit, and whether faults were put into it.
 fn drawn(r: &mut Random) -> (Circuit, bool) {
-    let size = generate::size(r);
+    let size = if r.once_in(200) { Size::Tallest } else { generate::size(r) };
     let mut x = unpadded::circuit(r, size);
     let mut faulty = false;
     while r.once_in(3) {
@@ -151,7 +161,7 @@ fn one(figures: &mut Figures, x: &Circuit, faulty: bool, cores: u64) -> Option<S
     let words = x.listing();
     let number = match model::pad(&words) {
         Ok(padded) => {
-            figures.accept(x);
+            figures.accept(x, padded[1]);
             return padded_difference(x, &words, &padded, cores as usize);
         }
         Err(number) => number,
