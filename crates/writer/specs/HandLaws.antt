@@ -1,18 +1,19 @@
 -- The answers of a call that hands out words: refused, too short a result slice, handed out.
 --
--- Main statements: `handed-front`, `handed-short`, `handed-long`, `handed-whole`; `hand-refused`, `hand-short`, `hand-given`; `answer-refused`, `answer-short`, `answer-given`.
+-- Main statements: `handed-front`, `handed-short`, `handed-long`, `handed-whole`; `hand-refused`, `hand-short`, `hand-given`; `answer-refused`, `answer-short`, `answer-given`; `answer-zero`, `answer-other`.
 use Prim.Native.Nat.{_<_, _≤_, ℕ}
-use borrow.Author.Tests.{eq-eqb, le-leb, lt-leb, ne-eqb}
+use borrow.Author.Tests.{eq-eqb, le-leb, leb-true, lt-leb, ne-eqb}
 use lib.Dec.{eqb, leb}
 use lib.ListN.{drop, length}
 use lib.Seq.{drop-length}
 use mathlib.Core.List.{List, _++_, append-nil}
 use mathlib.Core.Logic.{_≢_}
-use mathlib.Core.Path.{_∙_, _≡_, ap, sym}
+use mathlib.Core.Path.{_∙_, _≡_, ap, refl, sym}
+use native.Mathlib.Decide.{decLe, ℕ-discrete}
 use native.Mathlib.Nat.{zero-add}
 use native.Mathlib.Omega.{arith}
-use Rattle.base.specs.Firsts.{first-found, first-none}
-use Rattle.base.specs.Pick.{pick, pick-no, pick-yes}
+use Rattle.base.specs.Firsts.{first-found, first-none, first-zero}
+use Rattle.base.specs.Pick.{pick, pick-no, pick-yes, pick-zero}
 use Rattle.writer.specs.Put.{put, putIf}
 use Rattle.writer.specs.PutLaws.{put-front}
 use Rattle.writer.specs.Hand.{handAnswer, handLeft, handNumber, handed}
@@ -69,3 +70,19 @@ module _ (n : ℕ) (new out : List ℕ) where
   pub answer-given : n ≡ 0 → length new ≤ length out → _≡_ {A = Wrote} (record { number = 0; words = length new }) (handAnswer n new out)
   unfolding handAnswer
   answer-given e h = rw (← hand-given e h .0)
+
+  -- what an answer says
+  pub answer-zero : handAnswer n new out .number ≡ 0 → (n ≡ 0) × (handAnswer n new out .words ≡ length new) × (handLeft n new out ≡ new ++ drop (length new) out)
+  unfolding handAnswer handNumber
+  answer-zero e =
+      let a = first-zero n _ e in
+      let h = leb-true (length new) (length out) (pick-zero (leb (length new) (length out)) 0 10 (λ z. omega (arith, z)) (a .1) .0) in
+      (a .0, ap (λ (w : Wrote). w .words) (sym (answer-given (a .0) h)), sym (handed-long new out (length new) refl h ∙ hand-given (a .0) h .1))
+
+  pub answer-other : handAnswer n new out .number ≢ 0 → (handAnswer n new out .words ≡ 0) × (handLeft n new out ≡ out)
+  answer-other d = by (ℕ-discrete n 0) (decLe (length new) (length out))
+    where
+      by : Dec (n ≡ 0) → Dec (length new ≤ length out) → (handAnswer n new out .words ≡ 0) × (handLeft n new out ≡ out)
+      by (no f) l = (ap (λ (w : Wrote). w .words) (sym (answer-refused f)), sym (hand-refused f .1))
+      by (yes e) (no l) = let h : length out < length new = omega arith in (ap (λ (w : Wrote). w .words) (sym (answer-short e h)), sym (hand-short e h .1))
+      by (yes e) (yes l) = absurd (d (ap (λ (w : Wrote). w .number) (sym (answer-given e l))))
