@@ -50,7 +50,7 @@ enough-from (suc k) e n h = by (decLt (2 ^ e) n) (enough-from k (suc e) n (omega
     by (no a) more = rw (le-leb n (2 ^ e) (omega arith)) (omega arith)
     by (yes a) more = rw (lt-leb n (2 ^ e) a) more
 
-exponent-enough : (n : ℕ) → n ≤ 2 ^ exponent n
+pub exponent-enough : (n : ℕ) → n ≤ 2 ^ exponent n
 exponent-enough n = enough-from n 0 n (omega arith)
 
 least-from : (k e n j : ℕ) → e ≤ j → n ≤ 2 ^ j → exponentFrom k e n ≤ j

@@ -1,33 +1,16 @@
 -- The length that a circuit is padded to: a power of two, and at most 65,536 just where its bound is.
 --
 -- Main statements: `power-fits`, `power-passes`, `power-in-range`.
-use Prim.Native.Nat.{ℕ, zero, suc, _+_, _^_, _≤_, _<_}
+use Prim.Native.Nat.{ℕ, _^_, _≤_, _<_}
 use borrow.Author.Tests.{eq-eqb, le-leb}
 use mathlib.Core.Bool.{Bool, true}
 use mathlib.Core.Path.{_≡_, _∙_, ap, refl}
 use native.Mathlib.Decide.{decLt}
 use lib.Pow.{pow-lt}
 use native.Mathlib.Omega.{arith}
-use Rattle.base.specs.Exponent.{exponent, exponent-least, exponentFrom, isPower, below-power}
-use lib.Dec.{leb}
-use borrow.Author.Tests.{lt-leb}
-use Rattle.base.specs.Pick.{both, pick}
+use Rattle.base.specs.Exponent.{exponent, exponent-enough, exponent-least, exponentFrom, isPower}
+use Rattle.base.specs.Pick.{both}
 use Rattle.labels.specs.Ranges.{longestTrace, traceFits}
-
--- TEMP
-enough-from : (k e n : ℕ) → n ≤ e + k → n ≤ 2 ^ exponentFrom k e n
-unfolding exponentFrom
-enough-from zero e n h = omega (arith, below-power e)
-enough-from (suc k) e n h = by (decLt (2 ^ e) n) (enough-from k (suc e) n (omega arith))
-  where
-    by : Dec (2 ^ e < n) → n ≤ 2 ^ exponentFrom k (suc e) n → n ≤ 2 ^ pick (leb n (2 ^ e)) e (exponentFrom k (suc e) n)
-    by (no a) more = rw (le-leb n (2 ^ e) (omega arith)) (omega arith)
-    by (yes a) more = rw (lt-leb n (2 ^ e) a) more
-
-pub exponent-enough : (n : ℕ) → n ≤ 2 ^ exponent n
-exponent-enough n = enough-from n 0 n (omega arith)
-
--- END TEMP
 
 -- the exponent of a power of two
 exponent-of : (e : ℕ) → exponent (2 ^ e) ≡ e

@@ -10,7 +10,7 @@ use lib.ListN.{length, getD, take, drop, replicate, length-append, length-drop, 
 use lib.Seq.{getD-append-add, getD-drop}
 use lib.Dec.{leb, ltb, eqb}
 use borrow.Author.Tests.{leb-true, ltb-true, eqb-true, le-leb}
-use Rattle.padding.specs.Lengths.{exponent-enough}
+use Rattle.base.specs.Exponent.{exponent-enough}
 use Rattle.base.specs.Firsts.{first-zero}
 use Rattle.base.specs.Pick.{pick, pick-zero, both, both-true}
 use Rattle.labels.specs.Ranges.{longestTrace, mostColumns, traceFits}

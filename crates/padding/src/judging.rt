@@ -76,13 +76,13 @@ fn filler_gate(gates: &[u64]) -> u64
 }
 
 // The smallest power of two not below a number; 1, which is in its range, where that passes 65,536.
-fn power_or_one(least: u64) -> u64
-    ensures { λ r. ⌜ r ≡ pick (leb least longestTrace) (2 ^ exponent least) 1 ⌝ }
+fn power_or_one(n: u64) -> u64
+    ensures { λ r. ⌜ r ≡ pick (leb n longestTrace) (2 ^ exponent n) 1 ⌝ }
 {
-    if LONGEST_TRACE < least {
+    if LONGEST_TRACE < n {
         return 1;
     }
-    power_above(least).value
+    power_above(n).value
 }
 
 // The parameters with another trace length.

@@ -15,14 +15,14 @@ use Rattle.padding.proofs.judging.power_or_one.Statement.{statement}
 use Rattle.padding.proofs.judging.power_or_one.Tie as tie
 
 returns : tie.Need-returns
-returns c = let n = c .before .args .least in sym (pick-no (leb n longestTrace) (2 ^ exponent n) 1 (lt-leb n longestTrace (c .if1 .taken)))
+returns c = let n = c .before .args .n in sym (pick-no (leb n longestTrace) (2 ^ exponent n) 1 (lt-leb n longestTrace (c .if1 .taken)))
 
 power-above-requires : tie.Need-power-above-requires
 power-above-requires c κs = search needs
 
 returns-2 : tie.Need-returns-2
 returns-2 c =
-    let n = c .before .before .args .least in
+    let n = c .before .before .args .n in
     let h : n ≤ longestTrace = omega (arith, c .before .if1 .left) in
     let k : 2 ^ exponent n < 18446744073709551616 = omega (arith, power-fits n h) in
     c .power-above .ensures .1 ∙ mod-eq-of-lt k ∙ sym (pick-yes (leb n longestTrace) (2 ^ exponent n) 1 (le-leb n longestTrace h))
