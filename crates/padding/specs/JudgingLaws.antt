@@ -1,21 +1,24 @@
 -- The number of an unpadded circuit, cause by cause, as the code asks.
 --
--- Main statements: `pad-range`, `pad-planning`, `pad-21`, `pad-22`, `pad-own`; `Reached` (the length by the code's bound), `reached`.
+-- Main statements: `pad-range`, `pad-planning`, `pad-21`, `pad-22`, `pad-own`; `Reached` (the length by the code's bound), `reached`; `filler-here`, `filler-next`, `filler-none`.
 use mathlib.Core.Path.{_≡_, sym, ap, _∙_}
 use mathlib.Core.Logic.{_≢_}
 use mathlib.Core.Bool.{true}
 use mathlib.Core.List.{List}
-use Prim.Native.Nat.{ℕ, _+_, _^_, _≤_, _<_, max}
+use Prim.Native.Nat.{ℕ, _+_, _^_, _≤_, _<_, max, zero, suc, _-_}
 use native.Mathlib.Decide.{decLe}
+use native.Mathlib.Nat.{not-suc-le-zero}
+use native.Mathlib.Numerals.{add-one}
 use native.Mathlib.Omega.{arith}
 use lib.ListN.{length}
 use lib.Dec.{leb, ltb}
-use borrow.Author.Tests.{le-leb, lt-leb, lt-ltb, le-ltb, eq-eqb}
+use borrow.Author.Tests.{eq-eqb, le-leb, le-ltb, lt-leb, lt-ltb, ne-eqb}
 use Rattle.base.specs.Exponent.{exponent}
 use Rattle.base.specs.Firsts.{first-none, first-found}
 use Rattle.base.specs.Pick.{pick, pick-yes, pick-no}
 use Rattle.labels.specs.Ranges.{longestTrace, traceFits}
 use Rattle.parameters.specs.Parameters.{parametersAt}
+use Rattle.selector.specs.Gates.{kindOf}
 use Rattle.selector.specs.Refusals.{gateCount}
 use Rattle.tree.specs.Plan.{planNumber, planned, planFault}
 use Rattle.tree.specs.PlanLaws.{planned-fault}
@@ -24,7 +27,7 @@ use Rattle.pieces.specs.Tables.{sumRows}
 use Rattle.columns.specs.Sections.{unpaddedNumber, unpaddedCall}
 use Rattle.claim.specs.Statement.{settingFor}
 use Rattle.listing.specs.Listing.{Words}
-use Rattle.padding.specs.Padding.{given, least, lengthOf, withTrace, fillerOf, planningNumber, padNumber}
+use Rattle.padding.specs.Padding.{given, least, lengthOf, withTrace, fillerFrom, fillerOf, planningNumber, padNumber}
 use Rattle.padding.specs.Judging.{Capped, Judging}
 use Rattle.padding.specs.declared.judging.Judged.{Judged}
 use Rattle.padding.specs.Lengths.{one-in-range, power-fits, power-in-range, power-passes}
@@ -79,6 +82,28 @@ module _ (w : Words) (t n : ℕ) (k : Capped (sumRows 0 (tablesOf (w .tables))) 
             same = λ q. absurd (p q);
             passes = λ q. power-passes (least w) (bound-passes a (sumRows 0 (tablesOf (w .tables))) (given w) t k q);
           }
+
+-- ---- the first kind 1 gate, as a loop looks for it
+module _ (k g : ℕ) (gs : List ℕ) where
+  pub filler-here : 0 < k → kindOf gs g ≡ 1 → fillerFrom k g gs ≡ g
+  unfolding fillerFrom
+  filler-here h e = go k h
+    where
+      go : (k : ℕ) → 0 < k → fillerFrom k g gs ≡ g
+      go zero h = absurd (not-suc-le-zero h)
+      go (suc k) h = rw (eq-eqb (kindOf gs g) 1 e)
+
+  pub filler-next : 0 < k → kindOf gs g ≢ 1 → fillerFrom k g gs ≡ fillerFrom (k - 1) (g + 1) gs
+  unfolding fillerFrom
+  filler-next h d = go k h
+    where
+      go : (k : ℕ) → 0 < k → fillerFrom k g gs ≡ fillerFrom (k - 1) (g + 1) gs
+      go zero h = absurd (not-suc-le-zero h)
+      go (suc k) h = let z : suc k - 1 ≡ k = omega arith in rw (ne-eqb (kindOf gs g) 1 d, z, add-one g)
+
+  pub filler-none : k ≡ 0 → fillerFrom k g gs ≡ g
+  unfolding fillerFrom
+  filler-none e = rw e
 
 -- ---- the number
 module _ (w : Words) where

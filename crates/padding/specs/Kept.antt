@@ -1,9 +1,10 @@
 -- 02, Change 1: what a padding keeps and what it fills in, and that its listing is read back.
 --
--- Main statements: `stretched-kept`, `stretched-filled` (each S word and cell), `filler-first`, `kept-rows`, `padded-read`.
+-- Main statements: `length-smallest`; `stretched-kept`, `stretched-filled` and from them `s-words-kept`, `s-words-filled`, `cells-kept`, `cells-filled` (each S word and cell); `filler-first`, `kept-rows`
+-- (the rows); `padded-read`.
 use mathlib.Core.Path.{_≡_, sym, ap, _∙_, subst}
 use mathlib.Core.List.{List, [], _++_}
-use Prim.Native.Nat.{ℕ, zero, suc, _+_, _-_, _*_, _≤_, _<_}
+use Prim.Native.Nat.{ℕ, zero, suc, _+_, _-_, _*_, _^_, _≤_, _<_}
 use native.Mathlib.Nat.{mul-le-mul}
 use native.Mathlib.Decide.{ℕ-discrete}
 use native.Mathlib.Omega.{arith}
@@ -11,8 +12,11 @@ use mathlib.Core.Logic.{_≢_}
 use lib.Dec.{eqb}
 use borrow.Author.Tests.{eq-eqb, ne-eqb}
 use lib.ListN.{length, getD, replicate, length-drop, length-replicate, getD-replicate}
-use Rattle.pieces.specs.Records.{whole, rowsOf}
+use Rattle.pieces.specs.Records.{whole, rowsOf, tablesOf}
 use Rattle.base.specs.Pick.{pick}
+use Rattle.parameters.specs.Parameters.{parametersAt}
+use Rattle.pieces.specs.Cells.{placeholder}
+use Rattle.pieces.specs.Tables.{sumRows}
 use Rattle.selector.specs.Gates.{kindOf}
 use Rattle.selector.specs.Refusals.{gateCount}
 use Rattle.base.specs.Each.{Each, each-append}
@@ -20,8 +24,14 @@ use Rattle.pieces.specs.RecordLaws.{Whole}
 use Rattle.listing.specs.Listing.{Words, read}
 use Rattle.listing.specs.Written.{written, Sound, read-written}
 use Rattle.writer.specs.Besides.{besides-upper, besides-lower}
-use Rattle.padding.specs.Padding.{lengthOf, fillerFrom, fillerOf, stretched, padded}
-use Rattle.padding.specs.PaddingLaws.{padded-rows}
+use Rattle.padding.specs.Padding.{given, least, lengthOf, fillerFrom, fillerOf, stretched, padded, padNumber}
+use Rattle.padding.specs.PaddingLaws.{good, good-columns, length-covers, padded-rows}
+use Rattle.padding.specs.Lengths.{power-least}
+
+-- "The length is the smallest power of two not below used rows plus one, the table rows and N." That it is not below them is `length-covers`.
+pub length-smallest : (w : Words) (e : ℕ) → length (rowsOf (w .rows)) + 1 ≤ 2 ^ e → sumRows 0 (tablesOf (w .tables)) ≤ 2 ^ e → given w ≤ 2 ^ e → lengthOf w ≤ 2 ^ e
+unfolding lengthOf least
+length-smallest w e a b c = power-least (least w) e (omega (arith, a, b, c))
 
 -- ---- S words and cells
 module _ (fill n l k : ℕ) (ws : List ℕ) (h : n ≤ l) (e : length ws ≡ k * n) where
@@ -49,6 +59,25 @@ module _ (fill n l k : ℕ) (ws : List ℕ) (h : n ≤ l) (e : length ws ≡ k *
       ∙ besides-lower n m k ws rest e (length-replicate (k * m) fill) c (r - n) p (omega arith)
       ∙ getD-replicate (k * m) (c * m + (r - n)) fill 0 (omega (arith, b))
 
+-- "missing cells 9223372036854775808, missing S words zero": of a circuit that is padded
+module _ (w : Words) (z : padNumber w ≡ 0) where
+  long : (length (w .sWords) ≡ parametersAt (w .parameters) .specialised * given w) × (length (w .cells) ≡ parametersAt (w .parameters) .copy * given w)
+  long = good-columns w (good w z)
+
+  module _ (c r : ℕ) (i : c < parametersAt (w .parameters) .specialised) where
+    pub s-words-kept : r < given w → getD (padded w .sWords) (c * lengthOf w + r) 0 ≡ getD (w .sWords) (c * given w + r) 0
+    s-words-kept q = stretched-kept 0 (given w) (lengthOf w) (parametersAt (w .parameters) .specialised) (w .sWords) (length-covers w .1) (long .0) c r i q
+
+    pub s-words-filled : given w ≤ r → r < lengthOf w → getD (padded w .sWords) (c * lengthOf w + r) 0 ≡ 0
+    s-words-filled q u = stretched-filled 0 (given w) (lengthOf w) (parametersAt (w .parameters) .specialised) (w .sWords) (length-covers w .1) (long .0) c r i q u
+
+  module _ (c r : ℕ) (i : c < parametersAt (w .parameters) .copy) where
+    pub cells-kept : r < given w → getD (padded w .cells) (c * lengthOf w + r) 0 ≡ getD (w .cells) (c * given w + r) 0
+    cells-kept q = stretched-kept placeholder (given w) (lengthOf w) (parametersAt (w .parameters) .copy) (w .cells) (length-covers w .1) (long .1) c r i q
+
+    pub cells-filled : given w ≤ r → r < lengthOf w → getD (padded w .cells) (c * lengthOf w + r) 0 ≡ 9223372036854775808
+    cells-filled q u = stretched-filled placeholder (given w) (lengthOf w) (parametersAt (w .parameters) .copy) (w .cells) (length-covers w .1) (long .1) c r i q u
+
 -- ---- rows: the given records, then those of the missing rows
 filler-from : (gs : List ℕ) (k g : ℕ) → ((j : ℕ) → g ≤ j → j < fillerFrom k g gs → kindOf gs j ≢ 1) × (fillerFrom k g gs < g + k → kindOf gs (fillerFrom k g gs) ≡ 1)
 unfolding fillerFrom
@@ -68,6 +97,7 @@ filler-from gs (suc k) g = by (ℕ-discrete (kindOf gs g) 1) (filler-from gs k (
 pub filler-first : (gs : List ℕ) → ((j : ℕ) → j < fillerOf gs → kindOf gs j ≢ 1) × (fillerOf gs < gateCount gs → kindOf gs (fillerOf gs) ≡ 1)
 filler-first gs = let f = filler-from gs (gateCount gs) 0 in (λ j h. f .0 j (omega arith) h, λ h. f .1 (omega arith))
 
+-- "Missing rows become those of the first kind 1 gate": the given records, then only those, without constants
 pub kept-rows : (w : Words) → Sound w → rowsOf (padded w .rows) ≡ rowsOf (w .rows) ++ replicate (lengthOf w - length (rowsOf (w .rows))) (whole (fillerOf (w .gates)) 0 [])
 kept-rows w q = padded-rows (w .rows) (lengthOf w - length (rowsOf (w .rows))) (fillerOf (w .gates)) (q .whole-rows)
 

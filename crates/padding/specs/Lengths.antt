@@ -1,6 +1,6 @@
 -- The length that a circuit is padded to: a power of two, and at most 65,536 just where its bound is.
 --
--- Main statements: `power-fits`, `power-passes`, `power-in-range`.
+-- Main statements: `power-least`, `power-fits`, `power-passes`, `power-in-range`.
 use Prim.Native.Nat.{ℕ, _^_, _≤_, _<_}
 use borrow.Author.Tests.{eq-eqb, le-leb}
 use mathlib.Core.Bool.{Bool, true}
@@ -20,12 +20,16 @@ exponent-of e = by (decLt (exponent (2 ^ e)) e)
     by (yes h) = absurd (omega (arith, pow-lt h, exponent-enough (2 ^ e)))
     by (no d) = omega (arith, exponent-least (2 ^ e) e (omega arith))
 
-pub power-fits : (n : ℕ) → n ≤ longestTrace → 2 ^ exponent n ≤ longestTrace
-power-fits n h = by (decLt (exponent n) 16)
+-- it is the smallest
+pub power-least : (n e : ℕ) → n ≤ 2 ^ e → 2 ^ exponent n ≤ 2 ^ e
+power-least n e h = by (decLt (exponent n) e)
   where
-    by : Dec (exponent n < 16) → 2 ^ exponent n ≤ longestTrace
-    by (yes k) = let z : 2 ^ exponent n < 2 ^ 16 = pow-lt k in omega (arith, z)
-    by (no k) = let z : exponent n ≡ 16 = omega (arith, exponent-least n 16 h) in rw z (omega arith)
+    by : Dec (exponent n < e) → 2 ^ exponent n ≤ 2 ^ e
+    by (yes k) = omega (arith, pow-lt k)
+    by (no k) = let z : exponent n ≡ e = omega (arith, exponent-least n e h) in rw z (omega arith)
+
+pub power-fits : (n : ℕ) → n ≤ longestTrace → 2 ^ exponent n ≤ longestTrace
+power-fits n h = power-least n 16 h
 
 pub power-passes : (n : ℕ) → longestTrace < n → longestTrace < 2 ^ exponent n
 power-passes n h = omega (arith, exponent-enough n)

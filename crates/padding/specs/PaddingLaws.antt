@@ -1,6 +1,6 @@
 -- What a padding that is not refused knows of its circuit, and the padded listing's words.
 --
--- Main definitions: `Good`. Main statements: `good`, `small`, `fillers-read`, `padded-rows`, `laid-is`, `written-long`, `laid-long`, `count-of-rows`, `count-of-tables`.
+-- Main definitions: `Good`, `Numbers`. Main statements: `good`, `length-covers`, `padded-rows`, `plan-fine`, `good-numbers`, `good-columns`; `written-long`, `count-of-rows`, `count-of-tables`, `laid-is`, `room-is`, `padded-long`.
 use mathlib.Core.Path.{_≡_, refl, sym, ap, _∙_}
 use mathlib.Core.Bool.{Bool, true, false}
 use mathlib.Core.List.{List, [], _∷_, _++_, append-assoc, append-nil}
@@ -61,7 +61,7 @@ good w e =
       own = l .1;
     }
 
--- the length covers the rows and N
+-- the length covers the rows with one more, N and the table rows
 pub length-covers : (w : Words) → (length (rowsOf (w .rows)) + 1 ≤ lengthOf w) × (given w ≤ lengthOf w) × (sumRows 0 (tablesOf (w .tables)) ≤ lengthOf w)
 unfolding lengthOf least
 length-covers w =

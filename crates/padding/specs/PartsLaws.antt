@@ -1,22 +1,19 @@
 -- Laws of the parts of a padded listing, as the loops that write them meet them.
 --
--- Main statements: `put-after`, `fillers-more`, `fillers-long`, `rows-step`, `columns-step`, `stretched-long`; `filler-here`, `filler-next`, `filler-none`.
+-- Main statements: `put-after`, `fillers-long`, `rows-step`, `columns-step`, `stretched-long`.
 use mathlib.Core.Path.{_≡_, refl, sym, ap, _∙_}
-use mathlib.Core.Logic.{_≢_}
 use mathlib.Core.List.{List, [], _∷_, _++_, append-assoc}
-use Prim.Native.Nat.{ℕ, zero, suc, _+_, _-_, _*_, _≤_, _<_}
+use Prim.Native.Nat.{ℕ, zero, suc, _+_, _-_, _*_, _≤_}
 use native.Mathlib.Nat.{mul-le-mul, not-suc-le-zero, le-of-suc-le-suc}
 use native.Mathlib.Numerals.{add-one}
 use native.Mathlib.Omega.{arith}
 use lib.ListN.{length, take, drop, replicate, length-append, length-drop, length-replicate}
 use lib.Seq.{length-take-le}
-use borrow.Author.Tests.{eq-eqb, ne-eqb}
-use Rattle.selector.specs.Gates.{kindOf}
 use Rattle.writer.specs.Besides.{besides, besides-length}
 use Rattle.writer.specs.BesidesLaws.{besides-more}
 use Rattle.writer.specs.Put.{put, putIf}
 use Rattle.writer.specs.PutLaws.{put-put, put-next}
-use Rattle.padding.specs.Padding.{fillers, fillerFrom, stretched}
+use Rattle.padding.specs.Padding.{fillers, stretched}
 
 -- a part more after the front ones
 pub put-after : (from : ℕ) (front b old x y : List ℕ) (at : ℕ) → x ≡ put from front old → at ≡ from + length front → y ≡ put at b x → from + length front + length b ≤ length old
@@ -94,25 +91,3 @@ pub stretched-long : (fill n l k : ℕ) (ws : List ℕ) → n ≤ l → length w
 stretched-long fill n l k ws h e =
     let s : n + (l - n) ≡ l = omega arith in
     besides-length n (l - n) k ws (replicate (k * (l - n)) fill) (omega arith) (omega (arith, length-replicate (k * (l - n)) fill)) ∙ ap (λ (j : ℕ). k * j) s
-
--- ---- the first kind 1 gate
-module _ (k g : ℕ) (gs : List ℕ) where
-  pub filler-here : 0 < k → kindOf gs g ≡ 1 → fillerFrom k g gs ≡ g
-  unfolding fillerFrom
-  filler-here h e = go k h
-    where
-      go : (k : ℕ) → 0 < k → fillerFrom k g gs ≡ g
-      go zero h = absurd (not-suc-le-zero h)
-      go (suc k) h = rw (eq-eqb (kindOf gs g) 1 e)
-
-  pub filler-next : 0 < k → kindOf gs g ≢ 1 → fillerFrom k g gs ≡ fillerFrom (k - 1) (g + 1) gs
-  unfolding fillerFrom
-  filler-next h d = go k h
-    where
-      go : (k : ℕ) → 0 < k → fillerFrom k g gs ≡ fillerFrom (k - 1) (g + 1) gs
-      go zero h = absurd (not-suc-le-zero h)
-      go (suc k) h = let z : suc k - 1 ≡ k = omega arith in rw (ne-eqb (kindOf gs g) 1 d, z, add-one g)
-
-  pub filler-none : k ≡ 0 → fillerFrom k g gs ≡ g
-  unfolding fillerFrom
-  filler-none e = rw e

@@ -7,7 +7,7 @@ use Prim.Native.Nat.{ℕ, _+_, _-_, _≤_}
 use lib.ListN.{length}
 use Rattle.selector.specs.Refusals.{gateCount}
 use Rattle.padding.specs.Padding.{fillerFrom, fillerOf}
-use Rattle.padding.specs.PartsLaws.{filler-here, filler-next, filler-none}
+use Rattle.padding.specs.JudgingLaws.{filler-here, filler-next, filler-none}
 use Rattle.padding.proofs.judging.filler_gate.Statement.{statement}
 use Rattle.padding.proofs.judging.filler_gate.Tie as tie
 
