@@ -1,6 +1,6 @@
 /* What the header promises beside the proofs: its macros are what the functions answer; NULL may be
- * passed with length 0 wherever a pointer is; every call runs in a thread with the stack that the
- * header names.
+ * passed with length 0 wherever a pointer is; padding writes what it says and nothing else; every call
+ * runs in a thread with the stack that the header names.
  *
  *   calls [BYTES]     the thread's stack; KINCHOYU_STACK_BYTES if not given
  */
@@ -69,6 +69,7 @@ static void null_where_the_length_is_0(void)
     ANSWERS(19, kinchoyu_finish(NULL, 0, NULL, 0, NULL, 0));
     ANSWERS(0, kinchoyu_calls(NULL, 0, NULL, 0, NULL, 0, NULL, 0, NULL, 0, NULL, 0, NULL, 0));
     ANSWERS(20, kinchoyu_run(NULL, 0, NULL, 0, NULL, 0, NULL, 0, NULL, 0, NULL, 0));
+    ANSWERS(20, kinchoyu_pad(NULL, 0, NULL, 0, NULL, 0));
 
     /* NULL for each buffer that may be empty, in accepted calls; for the others, 10 */
     ANSWERS(10, kinchoyu_plan(parameters, 8, gates, 3, NULL, 0));
@@ -95,6 +96,60 @@ static void null_where_the_length_is_0(void)
     ANSWERS(10, kinchoyu_run(listing, WORDS(listing), NULL, 0, NULL, 0, copies, 1, NULL, 0, NULL, 0));
     ANSWERS(10, kinchoyu_run(listing, WORDS(listing), PLAN, NULL, 0, NULL, 0, NULL, 0, NULL, 0));
     ANSWERS(0, kinchoyu_run(listing, WORDS(listing), PLAN, NULL, 0, copies, 1, NULL, 0, NULL, 0));
+    ANSWERS(10, kinchoyu_pad(listing, WORDS(listing), NULL, 0, number, 1));
+    ANSWERS(0, number[0]);
+    ANSWERS(10, kinchoyu_pad(listing, WORDS(listing), NULL, 0, NULL, 0));
+}
+
+#define JUNK UINT64_C(77)
+
+/* Ends the program unless every word from a place on is junk. */
+static void junk(const uint64_t *words, size_t from, size_t length, int line)
+{
+    for (size_t i = from; i < length; i++) {
+        answers(JUNK, words[i], line);
+    }
+}
+
+/* The worked circuit with three rows of columns and one row: to four rows, and no word beyond. */
+static void padding(void)
+{
+    static const uint64_t listing[] = {8, 3, 1, 1, 1, 2, 0, 0, 0,       /* parameters */
+                                       2, 0, 2, 1, 1, 0, 0, 1, 0, 1, 5, /* gates, rows */
+                                       3, 6, 7, 8, 3, 0, 1, 1, 0};      /* S words, cells, tables */
+    static const uint64_t wanted[] = {8, 4, 1, 1, 1, 2, 0, 0, 0,
+                                      2, 0, 2, 1, 1, 0, 0, 4, 0, 1, 5, 1, 0, 1, 0, 1, 0,
+                                      4, 6, 7, 8, 0, 4, 0, 1, 1, KINCHOYU_PLACEHOLDER, 0};
+    uint64_t padded[WORDS(wanted) + 3], count[2], constants[12], copies[4], scratch[4];
+    uint64_t unmarked[WORDS(listing)];
+    memcpy(unmarked, listing, sizeof listing);
+    unmarked[13] = 2; /* no gate of kind 1 */
+
+    for (size_t i = 0; i < WORDS(padded); i++) {
+        padded[i] = JUNK;
+    }
+    count[0] = count[1] = JUNK;
+    /* refused: the result is as it was, and the count 0 */
+    ANSWERS(21, kinchoyu_pad(unmarked, WORDS(unmarked), padded, WORDS(padded), count, 2));
+    ANSWERS(0, count[0]);
+    count[0] = JUNK;
+    ANSWERS(10, kinchoyu_pad(listing, WORDS(listing), padded, WORDS(wanted) - 1, count, 2));
+    ANSWERS(0, count[0]);
+    count[0] = JUNK;
+    ANSWERS(21, kinchoyu_pad(unmarked, WORDS(unmarked), padded, WORDS(padded), NULL, 0));
+    ANSWERS(10, kinchoyu_pad(listing, WORDS(listing), padded, WORDS(padded), count, 0));
+    junk(padded, 0, WORDS(padded), __LINE__);
+    junk(count, 0, 2, __LINE__);
+
+    /* just long enough, then longer */
+    for (size_t more = 0; more <= 3; more += 3) {
+        ANSWERS(0, kinchoyu_pad(listing, WORDS(listing), padded, WORDS(wanted) + more, count, 2));
+        ANSWERS(WORDS(wanted), count[0]);
+        ANSWERS(0, (uint64_t)(memcmp(padded, wanted, sizeof wanted) != 0));
+        junk(padded, WORDS(wanted), WORDS(padded), __LINE__);
+        junk(count, 1, 2, __LINE__);
+    }
+    ANSWERS(0, kinchoyu_run(padded, count[0], PLAN, constants, 12, copies, 4, scratch, 4, NULL, 0));
 }
 
 /* A plan that nobody planned: a tree as deep as its nodes allow, each fork's right child a leaf. */
@@ -126,6 +181,8 @@ static void every_call(uint64_t first_degree, uint64_t step)
     static uint64_t listing[8 + WORDS(gates) + WORDS(rows) + WORDS(s_words) + WORDS(cells) + 3 + 6];
     static uint64_t list[WORDS(rows) + WORDS(s_words) + WORDS(cells) + 3 + 10];
     static const uint64_t parameters[] = {N, C, 16, 1, N, 4, 1, 1}, table[] = {1, 1, 9};
+    static const uint64_t marker[] = {1, 0, 0};
+    static uint64_t padded[2 * WORDS(listing)];
     const struct {
         const uint64_t *words;
         size_t length;
@@ -166,6 +223,9 @@ static void every_call(uint64_t first_degree, uint64_t step)
     list[listed++] = 0;
 
     ANSWERS(0, kinchoyu_run(listing, place, PLAN, COLUMNS));
+    ANSWERS(21, kinchoyu_pad(listing, place, padded, WORDS(padded), out, 1));
+    memcpy(listing + 10 + WORDS(gates) - 3, marker, sizeof marker);
+    ANSWERS(0, kinchoyu_pad(listing, place, padded, WORDS(padded), out, 1));
     memset(plan, 0, sizeof plan);
     ANSWERS(0, kinchoyu_plan(parameters, 8, gates, WORDS(gates), PLAN));
     ANSWERS(0, kinchoyu_path(PLAN, 127, out, 3));
@@ -203,6 +263,7 @@ static void *in_a_thread(void *nothing)
 {
     header();
     null_where_the_length_is_0();
+    padding();
     for (uint64_t step = 0; step < 8; step++) {
         for (uint64_t first = 0; first < 8; first++) {
             every_call(first, step);

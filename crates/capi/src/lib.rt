@@ -8,6 +8,7 @@ use encoding::encoding::STATE_WORDS;
 pub mod intake;
 pub mod list;
 pub mod listed;
+pub mod padded;
 pub mod planning;
 
 // How many words a plan has.

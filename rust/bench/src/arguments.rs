@@ -2,7 +2,7 @@
 use crate::memory::Memory;
 
 pub const USAGE: &str =
-    "speed [ROUNDS] [--seed K] [--count M] [--rounds R] [--mode kept|fresh|both] [--only I]";
+    "speed [ROUNDS] [--seed K] [--count M] [--rounds R] [--mode kept|fresh|both] [--only I | --padding]";
 
 pub struct Arguments {
     pub rounds: usize,
@@ -12,6 +12,8 @@ pub struct Arguments {
     pub memories: Vec<Memory>,
     /// One random circuit and nothing else.
     pub only: Option<u64>,
+    /// Padding and nothing else.
+    pub padding: bool,
 }
 
 fn number(text: Option<&String>) -> Option<u64> {
@@ -30,8 +32,14 @@ fn memories(name: &str) -> Option<Vec<Memory>> {
 impl Arguments {
     /// `None` where they are not as the usage says.
     pub fn read(words: &[String]) -> Option<Arguments> {
-        let mut all =
-            Arguments { rounds: 15, seed: 1, count: 60, memories: memories("both")?, only: None };
+        let mut all = Arguments {
+            rounds: 15,
+            seed: 1,
+            count: 60,
+            memories: memories("both")?,
+            only: None,
+            padding: false,
+        };
         let mut words = words.iter();
         while let Some(word) = words.next() {
             match word.as_str() {
@@ -40,6 +48,7 @@ impl Arguments {
                 "--rounds" => all.rounds = number(words.next())? as usize,
                 "--mode" => all.memories = memories(words.next()?)?,
                 "--only" => all.only = Some(number(words.next())?),
+                "--padding" => all.padding = true,
                 _ => all.rounds = number(Some(word))? as usize,
             }
         }

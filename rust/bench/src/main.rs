@@ -6,6 +6,7 @@ mod circuits;
 mod growth;
 mod library;
 mod memory;
+mod padding;
 mod random_set;
 mod report;
 mod rounds;
@@ -45,6 +46,7 @@ fn tables(a: &Arguments, memory: Memory) {
     let lists: Vec<_> = lists.iter().map(|(name, gates)| (*name, planning(gates))).collect();
     report::parts(&lists, &fixed);
     growth::both_sides(memory, a.rounds);
+    padding::beside_copy(memory, a.rounds);
 }
 
 /// One random circuit, whole and by part.
@@ -76,6 +78,9 @@ fn main() {
     println!("{NOTES}");
     if let Some(i) = a.only {
         return only(&a, i);
+    }
+    if a.padding {
+        return a.memories.iter().for_each(|memory| padding::beside_copy(*memory, a.rounds));
     }
     a.memories.iter().for_each(|memory| tables(&a, *memory));
     growth::pieces(a.rounds);

@@ -32,7 +32,7 @@ pub struct Sides {
 
 /// Runs a round in the room; what it hands on is dropped after its time. With fresh memory the room
 /// is then given back.
-fn round<T, D>(memory: Memory, run: impl FnOnce() -> (T, D)) -> D {
+pub fn round<T, D>(memory: Memory, run: impl FnOnce() -> (T, D)) -> D {
     let (made, time) = within(run);
     drop(made);
     if memory == Memory::Fresh {

@@ -1,8 +1,9 @@
-//! Document 01's "Run only" cases: the ends of what is taken.
+//! Document 01's "Run only" cases, the ends of what is taken, and those of document 02's padding.
 use crate::beside_original;
 use crate::circuit::{Circuit, PLACEHOLDER};
 use crate::encoding::{NODE_COUNT, PLAN_WORDS};
 use crate::figures::Figures;
+use crate::padding;
 use crate::random::Random;
 use crate::script::{self, accepted, opened, planned};
 use crate::sides::{Call, Sides, PLAN};
@@ -77,9 +78,43 @@ fn gates(r: &mut Random, f: &mut Figures) -> Result<(), String> {
     refused(&mut sides, f, Call::Plan(&parameters, &[2, 0, 0].repeat(129)), 3)
 }
 
+/// A lone gate of kind 1, so many rows of it, and cells of height N.
+fn unpadded(n: u64, rows: usize) -> Circuit {
+    Circuit { rows: vec![vec![0, 0]; rows], ..Circuit::nop(n, 1, 0) }
+}
+
+/// Padding: N = 0 and 65,536, 65,535 rows and tables longer than N are taken; one more gives 1 or
+/// 22, which is no wrapped sum.
+fn lengths(r: &mut Random, f: &mut Figures) -> Result<(), String> {
+    let mut all = vec![
+        (unpadded(0, 0), 0),
+        (unpadded(65536, 0), 0),
+        (unpadded(65537, 0), 1),
+        (unpadded(0, 65535), 0),
+        (unpadded(0, 65536), 22),
+    ];
+    let vast = [[65536, 1], [u64::MAX, 1], [u64::MAX, 2], [1 << 63, 1 << 63]];
+    for rows in vast {
+        let tables = rows.map(|rows| vec![0, rows]).to_vec();
+        all.push((Circuit { tables, ..unpadded(0, 0) }, 22));
+    }
+    all.push((Circuit { tables: vec![vec![0, 65536]], ..unpadded(0, 0) }, 15));
+    let mut long = Circuit::plain([2, 1, 0, 0, 0, 1, 1, 1], &[[3, 0, 0], [1, 0, 0]]);
+    long.tables = vec![vec![1, 0], [vec![1, 17], vec![5; 17]].concat()];
+    all.push((long, 0));
+    for (x, wanted) in all {
+        match padding::whole(r, f, &x)? {
+            number if number == wanted => {}
+            number => return Err(format!("padding {}: {number}, not {wanted}", x.written())),
+        }
+    }
+    Ok(())
+}
+
 pub fn run(f: &mut Figures) -> Result<(), String> {
     let mut r = Random::new(1);
     trace(&mut r, f)?;
     index(&mut r, f)?;
-    gates(&mut r, f)
+    gates(&mut r, f)?;
+    lengths(&mut r, f)
 }

@@ -5,7 +5,7 @@
 //!   driver every-word                 good plans and states with each word changed in turn
 //!   driver plans                      all short gate lists; plans that no planning gives
 //!   driver ends                       the ends of what is taken
-//!   driver largest                    the largest circuit of each mode
+//!   driver largest                    the largest circuit of each mode, whole and padded
 //!
 //! Every word of every buffer is compared after every call. Fails at the first difference, with
 //! the seed and the number of the circuit: `random 1 SEED NUMBER` makes that one alone. Built
@@ -18,6 +18,7 @@ mod expected;
 mod figures;
 #[cfg(upstream)]
 mod original;
+mod padding;
 mod plans;
 mod rest;
 mod script;
@@ -38,6 +39,9 @@ mod made_up;
 #[allow(dead_code)]
 #[path = "../../runner/src/random.rs"]
 mod random;
+#[cfg_attr(not(upstream), allow(dead_code))]
+#[path = "../../runner/src/unpadded.rs"]
+mod unpadded;
 
 use circuit::Circuit;
 use figures::Figures;
@@ -55,7 +59,7 @@ pub fn beside_original(
 ) -> Result<(), String> {
     figures.circuit(x);
     #[cfg(upstream)]
-    original::compare(r, figures, x, finished)?;
+    original::compare(r, figures, oracle::outcome(&x.listing(), 1), finished)?;
     #[cfg(not(upstream))]
     let _ = (r, finished);
     Ok(())
@@ -86,11 +90,16 @@ fn random_one(figures: &mut Figures, seed: u64, number: u64) -> Result<(), Strin
         x = generate::circuit(&mut r, size);
     }
     let before = figures.calls;
-    one(&mut r, figures, &x).map_err(|what| {
-        let call = figures.calls - before;
-        let written: String = x.written().chars().take(2000).collect();
-        format!("seed {seed}, circuit {number}, its call {call}: {what}\n  {written}")
-    })
+    one(&mut r, figures, &x)
+        .and_then(|_| match number % 4 {
+            0 => padding::random(&mut r, figures, size),
+            _ => Ok(()),
+        })
+        .map_err(|what| {
+            let call = figures.calls - before;
+            let written: String = x.written().chars().take(2000).collect();
+            format!("seed {seed}, circuit {number}, its call {call}: {what}\n  {written}")
+        })
 }
 
 fn random(figures: &mut Figures, count: u64, seed: u64, first: u64) -> Result<(), String> {
@@ -103,11 +112,21 @@ fn random(figures: &mut Figures, count: u64, seed: u64, first: u64) -> Result<()
     }
 }
 
+/// Whole, and without its last row, which padding has to bring.
+fn largest_one(figures: &mut Figures, mode: u64) -> Result<(), String> {
+    let mut r = Random::new(mode);
+    let mut x = generate::corner(&mut r, mode);
+    one(&mut r, figures, &x)?;
+    x.rows.pop();
+    match padding::whole(&mut r, figures, &x)? {
+        0 => Ok(()),
+        number => Err(format!("padding was refused: {number}")),
+    }
+}
+
 fn largest(figures: &mut Figures) -> Result<(), String> {
     (0..5).try_for_each(|mode| {
-        let mut r = Random::new(mode);
-        let x = generate::corner(&mut r, mode);
-        one(&mut r, figures, &x).map_err(|what| format!("mode {mode}: {what}"))
+        largest_one(figures, mode).map_err(|what| format!("mode {mode}: {what}"))
     })
 }
 

@@ -1,5 +1,4 @@
 //! The library's answer to a whole circuit beside the original's.
-use crate::circuit::Circuit;
 use crate::encoding::{GATE_COUNT, NODE_COUNT};
 use crate::figures::Figures;
 use crate::random::Random;
@@ -61,14 +60,13 @@ fn columns_differ(sides: &Sides, o: &Output) -> Option<String> {
     })
 }
 
-/// Compares with the original; `sides` are the finished ones, none where planning said 8.
+/// Compares with what the original made; `sides` are the finished ones, none where planning said 8.
 pub fn compare(
     r: &mut Random,
     figures: &mut Figures,
-    x: &Circuit,
+    outcome: Outcome,
     sides: Option<Sides>,
 ) -> Result<(), String> {
-    let outcome = oracle::outcome(&x.listing(), 1);
     match (sides, outcome) {
         (None, Outcome::Panicked(_)) => Ok(()),
         (Some(mut sides), Outcome::Made(o)) => {

@@ -23,6 +23,7 @@ pub enum Call<'a> {
     Finish,
     Calls(&'a [u64]),
     Run(&'a [u64]),
+    Pad(&'a [u64]),
 }
 
 impl Call<'_> {
@@ -41,6 +42,7 @@ impl Call<'_> {
             Call::Finish => "finish",
             Call::Calls(_) => "calls",
             Call::Run(_) => "run",
+            Call::Pad(_) => "pad",
         }
     }
 }
@@ -50,28 +52,40 @@ pub const PLAN: usize = 0;
 pub const STATE: usize = 1;
 pub const OUT: usize = 2;
 pub const NUMBERS: usize = 3;
-pub const CONSTANTS: usize = 4;
-pub const COPIES: usize = 5;
-pub const SCRATCH: usize = 6;
-pub const TABLES: usize = 7;
-pub const NAMES: [&str; 8] =
-    ["plan", "state", "out", "numbers", "constants", "copies", "scratch", "tables"];
+pub const PADDED: usize = 4;
+pub const COUNT: usize = 5;
+pub const CONSTANTS: usize = 6;
+pub const COPIES: usize = 7;
+pub const SCRATCH: usize = 8;
+pub const TABLES: usize = 9;
+pub const NAMES: [&str; 10] = [
+    "plan",
+    "state",
+    "out",
+    "numbers",
+    "padded",
+    "count",
+    "constants",
+    "copies",
+    "scratch",
+    "tables",
+];
 
 /// Room for the numbers of the longest list of calls.
 pub const MOST_CALLS: usize = 24;
 
-pub type Buffers = [Vec<u64>; 8];
+pub type Buffers = [Vec<u64>; 10];
 
 /// Both sides, and how many words of each buffer the next call is lent.
 #[derive(Clone)]
 pub struct Sides {
     pub library: Buffers,
     pub model: Buffers,
-    pub lent: [usize; 8],
+    pub lent: [usize; 10],
 }
 
 fn by_library(call: Call, lent: Lent) -> u64 {
-    let [plan, state, out, numbers, constants, copies, scratch, tables] = lent;
+    let [plan, state, out, numbers, padded, count, constants, copies, scratch, tables] = lent;
     match call {
         Call::Plan(parameters, gates) => raw::plan(parameters, gates, plan),
         Call::Stats => raw::stats(plan, out),
@@ -86,11 +100,12 @@ fn by_library(call: Call, lent: Lent) -> u64 {
         Call::Finish => raw::finish(state, copies, scratch),
         Call::Calls(list) => raw::calls(state, list, numbers, constants, copies, scratch, tables),
         Call::Run(listing) => raw::run(listing, plan, constants, copies, scratch, tables),
+        Call::Pad(listing) => raw::pad(listing, padded, count),
     }
 }
 
 fn by_model(call: Call, lent: Lent) -> u64 {
-    let [plan, state, out, numbers, constants, copies, scratch, tables] = lent;
+    let [plan, state, out, numbers, padded, count, constants, copies, scratch, tables] = lent;
     match call {
         Call::Plan(parameters, gates) => expected::plan(parameters, gates, plan),
         Call::Stats => expected::stats(plan, out),
@@ -107,12 +122,13 @@ fn by_model(call: Call, lent: Lent) -> u64 {
             expected::calls(state, list, numbers, [constants, copies, scratch, tables])
         }
         Call::Run(listing) => expected::run(listing, plan, [constants, copies, scratch, tables]),
+        Call::Pad(listing) => expected::pad(listing, padded, count),
     }
 }
 
-type Lent<'a> = [&'a mut [u64]; 8];
+type Lent<'a> = [&'a mut [u64]; 10];
 
-fn lend<'a>(buffers: &'a mut Buffers, lent: &[usize; 8]) -> Lent<'a> {
+fn lend<'a>(buffers: &'a mut Buffers, lent: &[usize; 10]) -> Lent<'a> {
     let mut lent = lent.iter();
     buffers.each_mut().map(|buffer| &mut buffer[..*lent.next().unwrap()])
 }
@@ -124,11 +140,11 @@ pub fn junk(r: &mut Random, length: usize) -> Vec<u64> {
 }
 
 impl Sides {
-    /// Room for a plan, a state, results and numbers, and no columns yet.
+    /// Room for a plan, a state, results and numbers, and no listing and columns yet.
     pub fn new(r: &mut Random) -> Sides {
-        let lengths = [PLAN_WORDS + 3, STATE_WORDS + 3, 6, MOST_CALLS + 2, 0, 0, 0, 0];
+        let lengths = [PLAN_WORDS + 3, STATE_WORDS + 3, 6, MOST_CALLS + 2, 0, 0, 0, 0, 0, 0];
         let library = lengths.map(|length| junk(r, length));
-        let lent = [PLAN_WORDS, STATE_WORDS, 3, MOST_CALLS, 0, 0, 0, 0];
+        let lent = [PLAN_WORDS, STATE_WORDS, 3, MOST_CALLS, 0, 0, 0, 0, 0, 0];
         Sides { model: library.clone(), library, lent }
     }
 
@@ -139,6 +155,17 @@ impl Sides {
             self.library[buffer] = junk(r, (length + beyond) as usize);
             self.model[buffer] = self.library[buffer].clone();
             self.lent[buffer] = self.library[buffer].len();
+        }
+    }
+
+    /// So many words for a padded listing and for its count are lent, and all are junk, also some
+    /// words beyond.
+    pub fn allocate_padded(&mut self, r: &mut Random, lengths: [u64; 2]) {
+        for (buffer, length) in (PADDED..).zip(lengths) {
+            let beyond = r.within(0, 5);
+            self.library[buffer] = junk(r, (length + beyond) as usize);
+            self.model[buffer] = self.library[buffer].clone();
+            self.lent[buffer] = length as usize;
         }
     }
 
@@ -172,7 +199,8 @@ impl Sides {
     }
 
     fn difference(&self) -> Option<String> {
-        let buffer = (0..8).find(|buffer| self.library[*buffer] != self.model[*buffer])?;
+        let buffer =
+            (0..NAMES.len()).find(|buffer| self.library[*buffer] != self.model[*buffer])?;
         let (library, model) = (&self.library[buffer], &self.model[buffer]);
         let place = (0..library.len()).find(|place| library[*place] != model[*place])?;
         let (left, wanted) = (library[place], model[place]);

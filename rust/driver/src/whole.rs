@@ -10,7 +10,7 @@ use crate::strays::other;
 
 /// A listing cut, lengthened, or with one word changed; the words near its start hold the most
 /// counts and ranges.
-fn changed(r: &mut Random, listing: &[u64]) -> Vec<u64> {
+pub fn changed(r: &mut Random, listing: &[u64]) -> Vec<u64> {
     let mut words = listing.to_vec();
     let last = words.len() as u64 - 1;
     match r.within(0, 9) {

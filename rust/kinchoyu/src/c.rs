@@ -111,6 +111,14 @@ extern "C" {
         tables: *mut u64,
         tables_length: usize,
     ) -> u64;
+    pub fn kinchoyu_pad(
+        listing: *const u64,
+        listing_length: usize,
+        out: *mut u64,
+        out_length: usize,
+        count: *mut u64,
+        count_length: usize,
+    ) -> u64;
     pub fn kinchoyu_finish(
         state: *mut u64,
         state_length: usize,

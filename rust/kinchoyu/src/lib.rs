@@ -47,12 +47,13 @@
 //! # Ok::<(), Refusal>(())
 //! ```
 //!
-//! The folder `examples/` has a whole program, with lookups.
+//! The folder `examples/` has a whole program, with lookups. A circuit whose trace is not yet full is
+//! padded first: [`pad`].
 //!
 //! # What holds of every call
 //!
-//! - Every function takes any arguments. What document 01 turns down comes back as a [`Refusal`]
-//!   with its number, and then no word of the columns was written.
+//! - Every function takes any arguments. What documents 01 and 02 turn down comes back as a
+//!   [`Refusal`] with its number, and then no word of the columns was written.
 //! - The library allocates nothing and keeps nothing between calls; this crate allocates what
 //!   [`Columns`], plans and states hold.
 //! - A call needs up to [`STACK_BYTES`] of stack beside the caller's own: the main thread's and
@@ -72,7 +73,7 @@ mod refusal;
 pub use calls::Calls;
 pub use columns::{Columns, Lengths, Lent};
 pub use intake::{Cell, Intake};
-pub use listing::{listing_from_bytes, run, run_in};
+pub use listing::{listing_from_bytes, pad, run, run_in};
 pub use parameters::{Gate, Lookup, Parameters};
 pub use plan::{label, Path, Plan, Stats};
 pub use refusal::Refusal;

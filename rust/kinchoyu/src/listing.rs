@@ -1,8 +1,8 @@
-//! A whole listing in one call.
+//! A whole listing in one call, and padding.
 use crate::columns::{Columns, Lent};
 use crate::plan::Plan;
 use crate::raw;
-use crate::refusal::Refusal;
+use crate::refusal::{answer, Refusal};
 
 /// The words of a listing kept as bytes, eight to a word, the least first: as the program `setup`
 /// reads it. Refusal 20 where the last word is cut.
@@ -58,4 +58,41 @@ pub fn run(listing: &[u64]) -> Result<(Plan, Columns), Refusal> {
     };
     let plan = run_in(listing, columns.lend())?;
     Ok((plan, columns))
+}
+
+/// Pads the listing of a circuit that has too few rows, as it comes from synthesis: its N is 0 to
+/// 65,536, the height of its S and cell columns, and its rows may be fewer or more. The length is the
+/// smallest power of two not below the rows plus one, the rows of all tables, and N. Missing rows
+/// become rows of the first [`Gate::Marker`](crate::Gate::Marker), missing cells placeholders, missing
+/// S words 0. Gives the padded listing, which [`run`] takes.
+///
+/// ```
+/// let listing = [
+///     8, 3, 1, 1, 0, 2, 0, 0, 0, // N, C, A, S, V, mode, W, share flag
+///     2, 0, 2, 1, 1, 0, 0, // gates
+///     1, 0, 1, 5, // rows
+///     0, // S words
+///     3, 0, 1, 1, // cells
+///     0, // tables
+/// ];
+/// let padded = kinchoyu::pad(&listing)?;
+/// assert_eq!(padded[..2], [8, 4]);
+/// let (_, columns) = kinchoyu::run(&padded)?;
+/// assert!(columns.constant_columns().eq([[1, 0, 0, 0], [5, 0, 0, 0]]));
+/// # Ok::<(), kinchoyu::Refusal>(())
+/// ```
+pub fn pad(listing: &[u64]) -> Result<Vec<u64>, Refusal> {
+    // at least a row is added
+    let mut padded = vec![0; 2 * listing.len() + 1];
+    let mut count = [0];
+    loop {
+        match answer(raw::pad(listing, &mut padded, &mut count)) {
+            // 10 comes last, and of a short result alone
+            Err(Refusal::ShortBuffer) => padded.resize(2 * padded.len(), 0),
+            Err(refusal) => return Err(refusal),
+            Ok(()) => break,
+        }
+    }
+    padded.truncate(count[0] as usize);
+    Ok(padded)
 }

@@ -221,3 +221,18 @@ pub fn run(
         )
     }
 }
+
+/// The padded listing of an unpadded circuit's, and its number of words.
+pub fn pad(listing: &[u64], out: &mut [u64], count: &mut [u64]) -> u64 {
+    // SAFETY: pointers and lengths of references, as said above.
+    unsafe {
+        c::kinchoyu_pad(
+            listing.as_ptr(),
+            listing.len(),
+            out.as_mut_ptr(),
+            out.len(),
+            count.as_mut_ptr(),
+            count.len(),
+        )
+    }
+}

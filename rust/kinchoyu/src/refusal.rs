@@ -5,7 +5,7 @@ use std::fmt;
 /// says of itself. `include/kinchoyu.h` has the same sentences.
 macro_rules! refusals {
     ($($name:ident = $number:literal: $sentence:literal;)*) => {
-        /// A refusal; its number is document 01's.
+        /// A refusal; its number is document 01's, from 21 on document 02's.
         #[derive(Clone, Copy, Debug, PartialEq, Eq, Hash, PartialOrd, Ord)]
         #[non_exhaustive]
         pub enum Refusal {
@@ -42,20 +42,22 @@ refusals! {
     MadeUp = 19: "the plan or the state is made up, never opened, or finished";
     Listing = 20:
         "there are not eight parameters, or the words are no whole listing or no list of calls";
+    NoMarker = 21: "no gate of kind 1 is listed, and padding adds rows of one";
+    TooLong = 22: "the length after padding passes 65,536";
 }
 
 impl Refusal {
-    /// All twenty, by rising number.
+    /// All of them, by rising number.
     pub fn all() -> impl Iterator<Item = Refusal> {
         ALL.iter().map(|(refusal, _)| *refusal)
     }
 
-    /// The refusal of a number from 1 to 20.
+    /// The refusal of a number from 1 to 22.
     pub fn from_number(number: u64) -> Option<Refusal> {
         Refusal::all().find(|refusal| refusal.number() == number)
     }
 
-    /// Document 01's number.
+    /// Its number.
     pub fn number(self) -> u64 {
         self as u64
     }
@@ -85,6 +87,6 @@ pub(crate) fn answer(number: u64) -> Result<(), Refusal> {
     match number {
         0 => Ok(()),
         // the library's contracts name no other number
-        _ => Err(Refusal::from_number(number).expect("a number of document 01")),
+        _ => Err(Refusal::from_number(number).expect("a refusal's number")),
     }
 }

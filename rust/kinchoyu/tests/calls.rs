@@ -106,10 +106,10 @@ fn what_is_asked_of_a_plan() {
 }
 
 #[test]
-fn refusals_have_the_numbers_of_document_01() {
+fn refusals_have_the_numbers_of_the_documents() {
     let numbers: Vec<u64> = Refusal::all().map(Refusal::number).collect();
-    assert_eq!(numbers, (1..21).collect::<Vec<u64>>());
-    assert_eq!((Refusal::from_number(0), Refusal::from_number(21)), (None, None));
+    assert_eq!(numbers, (1..23).collect::<Vec<u64>>());
+    assert_eq!((Refusal::from_number(0), Refusal::from_number(23)), (None, None));
     let said = Refusal::Variable.to_string();
     assert_eq!(said, "refused 14 (Variable): a cell names a variable that is not below V");
     let wide = Parameters { trace: 131072, ..PARAMETERS };
@@ -148,6 +148,63 @@ fn a_listing_in_one_call() {
         Lent { constants: &mut [], copies: &mut copies, scratch: &mut scratch, tables: &mut [] };
     assert_eq!(run_in(&listing(8, 1, [1, 1]), lent), Ok(plan));
     assert_eq!((copies.as_slice(), scratch[4]), (columns.copies(), 7));
+}
+
+/// N, the gate's kind, the number of rows of it, and cells.
+fn unpadded(trace: u64, kind: u64, rows: u64, cells: &[u64]) -> Vec<u64> {
+    let mut words = vec![8, trace, 1, 0, 0, 2, 0, 0, 0, 1, kind, (kind == 0) as u64, 0, rows];
+    (0..rows).for_each(|_| words.extend([0, 0]));
+    words.extend([0, cells.len() as u64]);
+    words.extend(cells);
+    words.push(0);
+    words
+}
+
+#[test]
+fn a_padded_listing_is_a_full_one() {
+    const HOLE: u64 = 1 << 63;
+    assert_eq!(pad(&unpadded(0, 1, 0, &[])), Ok(unpadded(1, 1, 1, &[HOLE])));
+    let full = unpadded(4, 1, 4, &[1, 0, 1, HOLE]);
+    assert_eq!(pad(&unpadded(3, 1, 1, &[1, 0, 1])), Ok(full.clone()));
+    assert_eq!(pad(&unpadded(2, 1, 3, &[1, 0])), Ok(unpadded(4, 1, 4, &[1, 0, HOLE, HOLE])));
+    let (plan, columns) = run(&full).unwrap();
+    assert_eq!((plan.parameters().trace, columns.copies().len()), (4, 4));
+    // more than twice the words: the buffer grows
+    let tall = pad(&unpadded(0, 1, 32768, &[])).unwrap();
+    assert_eq!((tall.len(), tall[1], tall[13]), (14 + 2 * 65536 + 2 + 65536 + 1, 65536, 65536));
+    // a full one gets room for one row more
+    assert_eq!(pad(&full).map(|words| words[1]), Ok(8));
+}
+
+#[test]
+fn what_padding_turns_down() {
+    assert_eq!(pad(&[]), Err(Refusal::Listing));
+    assert_eq!(pad(&unpadded(65537, 1, 0, &[])), Err(Refusal::Parameter));
+    assert_eq!(pad(&unpadded(0, 0, 1, &[])), Err(Refusal::NoMarker));
+    assert_eq!(pad(&unpadded(0, 1, 65536, &[])), Err(Refusal::TooLong));
+    assert_eq!(pad(&unpadded(1, 1, 1, &[0, 0])), Err(Refusal::TooMany));
+    assert_eq!(pad(&unpadded(2, 1, 1, &[0])), Err(Refusal::Incomplete));
+    assert_eq!(pad(&unpadded(1, 1, 1, &[2])), Err(Refusal::Variable));
+}
+
+#[test]
+fn what_padding_writes() {
+    let (listing, wanted) = (unpadded(1, 1, 1, &[0]), unpadded(2, 1, 2, &[0, 1 << 63]));
+    let (mut out, mut count) = (vec![7; wanted.len() + 2], [7; 2]);
+    assert_eq!(raw::pad(&listing, &mut out, &mut count), 0);
+    assert_eq!((&out[..wanted.len()], &out[wanted.len()..]), (&wanted[..], &[7, 7][..]));
+    assert_eq!(count, [wanted.len() as u64, 7]);
+    let (mut out, mut count) = (vec![7; wanted.len() - 1], [7; 2]);
+    assert_eq!(raw::pad(&listing, &mut out, &mut count), 10);
+    assert_eq!((out, count), (vec![7; wanted.len() - 1], [0, 7]));
+    let mut out = vec![7; wanted.len()];
+    assert_eq!(raw::pad(&listing, &mut out, &mut []), 10);
+    assert_eq!(raw::pad(&listing[1..], &mut out, &mut []), 20);
+    let mut count = [7; 2];
+    assert_eq!(raw::pad(&listing[1..], &mut out, &mut count), 20);
+    assert_eq!((&out, count), (&vec![7; wanted.len()], [0, 7]));
+    assert_eq!(raw::pad(&listing, &mut out, &mut count), 0);
+    assert_eq!(out, wanted);
 }
 
 #[test]

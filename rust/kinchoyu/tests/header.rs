@@ -59,7 +59,7 @@ fn one_way(argument: &str) -> String {
 #[test]
 fn header_crate_and_document_declare_the_same_functions() {
     let header = functions(&header(), "\nuint64_t kinchoyu_");
-    assert_eq!(header.len(), 15);
+    assert_eq!(header.len(), 16);
     assert_eq!(header["label"][3], "uint64_t *out");
     assert_eq!(header["state_words"].len(), 0);
     assert_eq!(functions(&read("src/c.rs"), "pub fn kinchoyu_"), header);

@@ -36,11 +36,13 @@ impl<'a> Cursor<'a> {
     }
 }
 
-fn row_length(words: &[u64]) -> Option<u128> {
+/// How long the row record at the front is.
+pub fn row_length(words: &[u64]) -> Option<u128> {
     Some(2 + *words.get(1)? as u128)
 }
 
-fn table_length(words: &[u64]) -> Option<u128> {
+/// How long the table record at the front is.
+pub fn table_length(words: &[u64]) -> Option<u128> {
     Some(2 + *words.first()? as u128 * *words.get(1)? as u128)
 }
 

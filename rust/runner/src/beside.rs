@@ -3,7 +3,7 @@ use crate::circuit::Circuit;
 use crate::compare::{compare, Verdict};
 use crate::figures::Figures;
 use crate::random::Random;
-use crate::{differences, exhaustive, faults, generate, program, record};
+use crate::{differences, exhaustive, faults, generate, padding, program, record};
 
 /// Prints a circuit that the judges do not agree on; false, for the exit status.
 pub fn report(circuit: &Circuit, what: &str) -> bool {
@@ -35,19 +35,26 @@ fn random(count: u64, seed: u64) -> bool {
     true
 }
 
-/// The largest circuits of all, one in each mode.
+/// The largest circuits of all, one in each mode; then without the last row, to be padded.
 fn corners() -> bool {
     let mut r = Random::new(0);
     let start = std::time::Instant::now();
     for mode in 0..5 {
-        let circuit = generate::corner(&mut r, mode);
+        let mut circuit = generate::corner(&mut r, mode);
         match compare(&circuit, Some(&mut r)) {
             Verdict::Same => {}
             Verdict::Refused(number, _) => return report(&circuit, &format!("refused: {number}")),
             Verdict::Different(what) => return report(&circuit, &what),
         }
+        circuit.rows.pop();
+        if let Some(what) = padding::whole_difference(&circuit) {
+            return report(&circuit, &what);
+        }
     }
-    println!("largest circuits, one in each mode: equal, {:.1} s", start.elapsed().as_secs_f64());
+    println!(
+        "largest circuits, one in each mode, and padded: equal, {:.1} s",
+        start.elapsed().as_secs_f64()
+    );
     true
 }
 
@@ -64,6 +71,7 @@ pub fn command(arguments: &[&str]) -> Option<bool> {
         ["exhaustive"] => Some(exhaustive::run()),
         ["differences"] => Some(differences::run()),
         ["faults", count, seed] => Some(faults::run(number(count), number(seed))),
+        ["pad", count, seed] => Some(padding::run(number(count), number(seed))),
         ["program", path, count, seed] => Some(program::run(path, number(count), number(seed))),
         ["record", folder, seed] => {
             record::run(folder, number(seed));

@@ -45,8 +45,9 @@ pub struct Modelled {
     pub after: Buffers,
 }
 
-pub fn modelled(circuit: &Circuit, words: &[u64]) -> Result<Modelled, u64> {
-    let plan = model::plan(circuit.parameters, &circuit.gates.concat());
+pub fn modelled(words: &[u64]) -> Result<Modelled, u64> {
+    let all = model::listing::sections(words).ok_or(20u64)?;
+    let plan = model::plan(all.parameters, all.gates);
     let needed = plan.as_ref().map(lengths).unwrap_or([0; 4]);
     let before = lent(needed, 5);
     let mut after = before.clone();
@@ -61,7 +62,7 @@ pub fn compare(circuit: &Circuit, cuts: Option<&mut Random>) -> Verdict {
     let mut cuts = cuts;
     let cores = cuts.as_mut().map_or(1, |r| r.pick(&[1, 1, 2, 3, 7]));
     let outcome = oracle::outcome(&words, cores);
-    match (modelled(circuit, &words), outcome) {
+    match (modelled(&words), outcome) {
         (_, Outcome::Malformed) => Verdict::Different("the oracle took no listing".to_string()),
         (Err(number), Outcome::Panicked(message)) => Verdict::Refused(number, Some(message)),
         (Err(number), Outcome::Made(_)) => Verdict::Refused(number, None),

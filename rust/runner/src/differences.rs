@@ -179,20 +179,46 @@ fn answer(outcome: &Outcome) -> (Rust, String) {
     }
 }
 
-/// Prints the table; false where a run does not give what the case says.
+/// Unpadded circuits with N = 0; the last one is none that is turned down: its N is passed over.
+pub fn padded_cases() -> Vec<Case> {
+    let flat = |edit: &dyn Fn(&mut Circuit)| edited(lone(|p| p[0] = 0), edit);
+    let tables = flat(&|x| x.tables = vec![vec![0, 65536], vec![0, 1]]);
+    let evaluated = flat(&|x| (x.gates, x.rows) = (vec![ONE], vec![vec![0, 0]]));
+    let high = edited(lone(|p| p[0] = 2), |x| x.rows.clear());
+    vec![
+        case(21, "no kind 1 gate", Panics, evaluated),
+        case(22, "65,536 rows", Panics, flat(&|x| x.rows = vec![vec![0, 0]; 65536])),
+        case(22, "65,537 table rows", Panics, tables),
+        case(0, "N above the rows plus one, S = 0, mode 0", Takes, high),
+    ]
+}
+
+/// A line of the table; false where the run does not give what the case says.
+fn line(case: &Case, model: u64, outcome: &Outcome) -> bool {
+    let (rust, text) = answer(outcome);
+    println!("| {model} | {} | `{}` | {text} |", case.cause, case.circuit.written());
+    let good = model == case.number && rust == case.rust;
+    if !good {
+        println!("DIFFERENT: {}: wanted {} and {:?}", case.cause, case.number, case.rust);
+    }
+    good
+}
+
+/// Prints both tables; false where a run does not give what the case says.
 pub fn run() -> bool {
-    println!("| number | cause | smallest input | the Rust |");
-    println!("|---|---|---|---|");
+    let heads = "| number | cause | smallest input | the Rust |\n|---|---|---|---|";
+    println!("{heads}");
     let mut good = true;
     for case in cases() {
         let words = case.circuit.listing();
-        let model = crate::compare::modelled(&case.circuit, &words).err().unwrap_or(0);
-        let (rust, text) = answer(&oracle::outcome(&words, 1));
-        println!("| {model} | {} | `{}` | {text} |", case.cause, case.circuit.written());
-        if model != case.number || rust != case.rust {
-            println!("DIFFERENT: {}: wanted {} and {:?}", case.cause, case.number, case.rust);
-            good = false;
-        }
+        let model = crate::compare::modelled(&words).err().unwrap_or(0);
+        good &= line(&case, model, &oracle::outcome(&words, 1));
+    }
+    println!("\nUnpadded circuits, padded by each side:\n\n{heads}");
+    for case in padded_cases() {
+        let words = case.circuit.listing();
+        let model = model::pad(&words).err().unwrap_or(0);
+        good &= line(&case, model, &oracle::padded(&words, 1));
     }
     good
 }

@@ -85,7 +85,7 @@ pub fn fault(r: &mut Random, x: &mut Circuit) {
 }
 
 /// Words of a kind that the original cannot be given: its types have no such value.
-fn sayable(x: &Circuit) -> bool {
+pub fn sayable(x: &Circuit) -> bool {
     let [n, .., mode, w, flag] = x.parameters;
     let gates = x.gates.iter().all(|gate| gate[0] == 0 || (gate[1], gate[2]) == (0, 0));
     gates && flag <= 1 && (mode != 0 || (w, flag) == (0, 0)) && n <= 131072

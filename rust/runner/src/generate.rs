@@ -97,7 +97,7 @@ fn variables(r: &mut Random, cells: u64) -> u64 {
 
 /// Noise where document 01 reads nothing: bits 48 to 62 of an index, all bits but 63 of
 /// a placeholder.
-fn cell(r: &mut Random, v: u64, holes: u64, noise: bool) -> u64 {
+pub fn cell(r: &mut Random, v: u64, holes: u64, noise: bool) -> u64 {
     let dirt = if noise { r.word() & !PLACEHOLDER } else { 0 };
     if v == 0 || r.within(0, 99) < holes {
         return PLACEHOLDER | dirt;
@@ -109,7 +109,7 @@ fn cell(r: &mut Random, v: u64, holes: u64, noise: bool) -> u64 {
     index | (dirt >> 48 << 48)
 }
 
-fn rows(r: &mut Random, n: u64, gates: &[[u64; 3]], mode: u64) -> Vec<Vec<u64>> {
+pub fn rows(r: &mut Random, n: u64, gates: &[[u64; 3]], mode: u64) -> Vec<Vec<u64>> {
     let count = gates.len() as u64;
     let mut order: Vec<u64> = (0..count).collect();
     order.extend((count..n).map(|_| r.within(0, count - 1)));
@@ -126,7 +126,7 @@ fn rows(r: &mut Random, n: u64, gates: &[[u64; 3]], mode: u64) -> Vec<Vec<u64>> 
     rows
 }
 
-fn tables(r: &mut Random, n: u64, w: u64) -> Vec<Vec<u64>> {
+pub fn tables(r: &mut Random, n: u64, w: u64) -> Vec<Vec<u64>> {
     let count = match r.within(0, 19) {
         0..=3 => 0,
         4 => 255,
@@ -148,7 +148,8 @@ fn tables(r: &mut Random, n: u64, w: u64) -> Vec<Vec<u64>> {
     all
 }
 
-pub fn circuit(r: &mut Random, size: Size) -> Circuit {
+/// Parameters and gates.
+pub fn planned(r: &mut Random, size: Size) -> ([u64; 8], Vec<[u64; 3]>) {
     let mode = r.within(0, 4);
     let most = match size {
         Size::Small => r.pick(&[1, 4, 16, 32, 64, 128]),
@@ -172,7 +173,12 @@ pub fn circuit(r: &mut Random, size: Size) -> Circuit {
         2 | 4 => 1,
         _ => r.within(0, 1),
     };
-    filled(r, [n, c, a, s, v, mode, w, flag], gates)
+    ([n, c, a, s, v, mode, w, flag], gates)
+}
+
+pub fn circuit(r: &mut Random, size: Size) -> Circuit {
+    let (parameters, gates) = planned(r, size);
+    filled(r, parameters, gates)
 }
 
 /// Rows, S words, cells and tables for these parameters and gates.

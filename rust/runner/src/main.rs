@@ -6,6 +6,7 @@
 //!   runner exhaustive             all small gate lists
 //!   runner differences            what the Rust does with circuits that 01 turns down
 //!   runner faults COUNT SEED      COUNT circuits refused for one random fault
+//!   runner pad COUNT SEED         COUNT unpadded random circuits, padded by both
 //!   runner program PATH COUNT SEED  the built program on COUNT random inputs
 //!   runner record FOLDER SEED     write the recorded answers
 //!
@@ -34,6 +35,8 @@ mod listings;
 #[cfg(upstream)]
 mod lists;
 #[cfg(upstream)]
+mod padding;
+#[cfg(upstream)]
 mod pieces;
 #[cfg(upstream)]
 mod program;
@@ -41,6 +44,8 @@ mod program;
 mod random;
 #[cfg(upstream)]
 mod record;
+#[cfg(upstream)]
+mod unpadded;
 
 #[cfg(not(upstream))]
 mod beside {

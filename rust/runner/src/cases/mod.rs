@@ -1,7 +1,8 @@
-//! Cases with answers that document 01 states, or that follow from one of its sentences:
+//! Cases with answers that documents 01 and 02 state, or that follow from one of their sentences:
 //! the model is held against them where the original has nothing to say.
 mod calls;
 mod listings;
+mod padding;
 mod plans;
 
 use std::fmt::Debug;
@@ -39,6 +40,9 @@ pub fn run() -> bool {
     listings::malformed(&mut checks);
     listings::sizes(&mut checks);
     listings::order(&mut checks);
+    padding::padded(&mut checks);
+    padding::lengths(&mut checks);
+    padding::counted(&mut checks);
     println!("stated cases: {} held, {} failed", checks.held, checks.failed);
     checks.failed == 0
 }

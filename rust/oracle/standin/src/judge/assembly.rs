@@ -113,8 +113,14 @@ fn general_purpose(l: &Listing, geometry: &CSGeometry) -> GeneralPurpose {
             .iter()
             .map(|gate| gate_evaluator(*gate, geometry))
             .collect(),
-        evaluator_type_id_into_evaluator_index_over_general_purpose_columns: HashMap::new(),
+        evaluator_type_id_into_evaluator_index_over_general_purpose_columns: nop_evaluator(l),
     }
+}
+
+/// Where padding finds the Nop gate's evaluator: the first kind 1 gate, as document 02 says.
+fn nop_evaluator(l: &Listing) -> HashMap<TypeId, usize> {
+    let first = l.gates.iter().position(|gate| gate[0] == 1);
+    first.map(|at| (TypeId::of::<NopGateConstraintEvaluator>(), at)).into_iter().collect()
 }
 
 /// A lookup over specialised columns has its evaluator first among theirs; 01's
@@ -185,6 +191,24 @@ pub fn synthesis(l: &Listing) -> Synthesis {
             s as usize,
         ),
         ..empty()
+    }
+}
+
+/// So many columns of height N, also where N is 0; words that are not there are left out.
+fn heights<T>(words: &[u64], n: u64, many: u64, of: impl Fn(&[u64]) -> Vec<T>) -> Vec<Vec<T>> {
+    let at = |c: u64| ((c * n) as usize).min(words.len());
+    (0..many).map(|c| of(&words[at(c)..at(c + 1)])).collect()
+}
+
+/// Before padding: the columns have the given height, the trace its greatest length.
+pub fn unpadded(l: &Listing) -> Synthesis {
+    let [n, c, _, s, ..] = l.parameters;
+    let variables = |words: &[u64]| words.iter().map(|w| Variable(*w)).collect();
+    Synthesis {
+        max_trace_len: 65536,
+        copy_permutation_data: heights(&l.cells, n, c, variables),
+        constants_for_gates_in_specialized_mode: heights(&l.s_words, n, s, elements),
+        ..synthesis(l)
     }
 }
 

@@ -34,12 +34,25 @@ pub fn run(words: &[u64]) -> Option<Output> {
 /// As `run`, saying what went wrong, and with the worker's chunks cut for
 /// `cores` threads.
 pub fn outcome(words: &[u64], cores: usize) -> Outcome {
+    answered(words, cores, |listing| assembly::synthesis(listing).into_assembly())
+}
+
+/// As `outcome`, of an unpadded circuit, which the upstream pads first.
+pub fn padded(words: &[u64], cores: usize) -> Outcome {
+    answered(words, cores, |listing| {
+        let mut synthesis = assembly::unpadded(listing);
+        synthesis.pad_and_shrink();
+        synthesis.into_assembly()
+    })
+}
+
+fn answered(words: &[u64], cores: usize, assembled: fn(&Listing) -> Assembly) -> Outcome {
     let Some(listing) = Listing::read(words) else {
         return Outcome::Malformed;
     };
     let made = catch_unwind(AssertUnwindSafe(|| {
         let worker = Worker::new_with_num_threads(cores);
-        let assembly: Assembly = assembly::synthesis(&listing).into_assembly();
+        let assembly = assembled(&listing);
         answer::create(&assembly, listing.gates.len(), &worker)
     }));
     match made {
