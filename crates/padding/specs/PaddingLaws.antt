@@ -110,7 +110,7 @@ count-of-rows w e =
     ∙ behind front (w .rows ++ s) n (10 + length (w .gates)) l
 
 -- the sections before the tables
-abbrev pub frontOf : Words → List ℕ
+abbrev frontOf : Words → List ℕ
 frontOf w =
     ((((length (w .parameters) ∷ w .parameters) ++ (length (w .gates) / gateWords ∷ w .gates)) ++ (length (rowsOf (w .rows)) ∷ w .rows))
     ++ (length (w .sWords) ∷ w .sWords))
