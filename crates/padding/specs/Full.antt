@@ -1,10 +1,10 @@
 -- 02, Change 1: "The padded circuit must meet everything promised of a full one.": the listing that a padding writes is taken by the run of a listing in any buffers that
 -- have room, and leaves columns that are right for it.
 --
--- Main definitions: `padListing`, `Full`. Main statements: `padded-taken`, `padded-right`, `pad-right`; `pad-full` and `pad-refused`, of the call's own answer.
+-- Main definitions: `padListing`, `Full`. Main statements: `pad-full`, `pad-refused`, of the call's own answer.
 use mathlib.Core.Path.{_≡_, refl, sym, ap, _∙_, subst}
-use mathlib.Core.Logic.{_≢_, _⊎_, inl, inr}
-use mathlib.Core.Bool.{Bool, true, false}
+use mathlib.Core.Logic.{_≢_}
+use mathlib.Core.Bool.{true, false}
 use mathlib.Core.List.{List, _++_}
 use mathlib.Core.Option.{Option, none, some}
 use Prim.Native.Nat.{ℕ}
@@ -21,7 +21,7 @@ use Rattle.columns.specs.SectionsLaws.{number-10, number-contents}
 use Rattle.claim.specs.Statement.{settingFor, Right}
 use Rattle.listing.specs.Listing.{Reading, Words, orTwenty, read, refused, sixSections, whole}
 use Rattle.listing.specs.Written.{written, Sound, read-sound}
-use Rattle.stage.specs.Circuit.{stageNumber, stageAnswer}
+use Rattle.stage.specs.Circuit.{stageAnswer}
 use Rattle.stage.specs.CircuitLaws.{answer-refused, answer-taken, number-sections}
 use Rattle.stage.specs.Listed.{listedAnswer, listedLeft, listed-whole}
 use Rattle.stage.specs.Accepted.{given, listed-right}
@@ -32,10 +32,6 @@ use Rattle.padding.specs.Padding.{lengthOf, withTrace, paddedSetting, pa
 use Rattle.padding.specs.PaddingLaws.{Good, good, plan-fine, first-replaced}
 use Rattle.padding.specs.Kept.{padded-read}
 use Rattle.padding.specs.Accepted.{padded-accepted}
-
--- the circuit that a listing's sections give
-abbrev pub RightFor : Words → Store → Type 1
-RightFor v b = Right (settingFor (parametersAt (v .parameters)) (v .gates)) (given (v .rows) (v .sWords) (v .cells) (v .tables)) b
 
 module _ (w : Words) (q : Sound w) (g : Good w) (b : Store) where
   abbrev v : Words
@@ -50,42 +46,29 @@ module _ (w : Words) (q : Sound w) (g : Good w) (b : Store) where
       ap (λ (y : Staged). y .number) (sym (listed-whole (written v) b v (padded-read w q) .0))
       ∙ subst (λ (y : Parameters). stageAnswer y (w .gates) (v .rows) (v .sWords) (v .cells) (v .tables) b .number ≡ n) (sym (first-replaced (w .parameters) (lengthOf w))) e
 
-  module _ (h : roomToOpen (paddedSetting w) b ≡ true) where
-    stage-zero : stageNumber ps (w .gates) (v .rows) (v .sWords) (v .cells) (v .tables) b ≡ 0
-    stage-zero =
-        number-sections ps (w .gates) (v .rows) (v .sWords) (v .cells) (v .tables) b (plan-fine w g)
-        ∙ sym (number-contents (planned ps (w .gates)) b (v .rows) (v .sWords) (v .cells) (v .tables) (planned-fault ps (w .gates) (plan-fine w g)) h)
-        ∙ padded-accepted w q g
+  -- buffers with room: nothing is wrong with the circuit itself
+  padded-taken : roomToOpen (paddedSetting w) b ≡ true → listedAnswer (written v) b .number ≡ 0
+  padded-taken h =
+      let n = number-sections ps (w .gates) (v .rows) (v .sWords) (v .cells) (v .tables) b (plan-fine w g)
+      ∙ sym (number-contents (planned ps (w .gates)) b (v .rows) (v .sWords) (v .cells) (v .tables) (planned-fault ps (w .gates) (plan-fine w g)) h)
+      ∙ padded-accepted w q g
+      in
+      run-number 0 (ap (λ (y : Staged). y .number) (sym (answer-taken ps (w .gates) (v .rows) (v .sWords) (v .cells) (v .tables) b n .0)))
 
-    pub padded-taken : listedAnswer (written v) b .number ≡ 0
-    padded-taken = run-number 0 (ap (λ (y : Staged). y .number) (sym (answer-taken ps (w .gates) (v .rows) (v .sWords) (v .cells) (v .tables) b stage-zero .0)))
-
-    pub padded-right : RightFor v (listedLeft (written v) b)
-    padded-right = listed-right (written v) b v (padded-read w q) padded-taken
-
-  -- buffers without room are 10
   padded-10 : roomToOpen (paddedSetting w) b ≡ false → listedAnswer (written v) b .number ≡ 10
   padded-10 h =
       let e = number-10 (planned ps (w .gates)) b (v .rows) (v .sWords) (v .cells) (v .tables) (planned-fault ps (w .gates) (plan-fine w g)) h in
       let n = e ∙ sym (number-sections ps (w .gates) (v .rows) (v .sWords) (v .cells) (v .tables) b (plan-fine w g)) in
       run-number 10 (ap (λ (y : Staged). y .number) (sym (answer-refused ps (w .gates) (v .rows) (v .sWords) (v .cells) (v .tables) b 10 n (λ z. omega (arith, z)) .0)))
 
-  taken-or-10 : (listedAnswer (written v) b .number ≡ 0) ⊎ (listedAnswer (written v) b .number ≡ 10)
-  taken-or-10 = by (roomToOpen (paddedSetting w) b) refl
-    where
-      by : (r : Bool) → roomToOpen (paddedSetting w) b ≡ r → (listedAnswer (written v) b .number ≡ 0) ⊎ (listedAnswer (written v) b .number ≡ 10)
-      by true h = inl (padded-taken h)
-      by false h = inr (padded-10 h)
-
--- the same of any words that a padding takes
-pub pad-right : (ws : List ℕ) (w : Words) → read ws ≡ whole w → padNumber w ≡ 0 → (b : Store) → roomToOpen (paddedSetting w) b ≡ true
-    → (listedAnswer (written (padded w)) b .number ≡ 0) × RightFor (padded w) (listedLeft (written (padded w)) b)
-pad-right ws w r z b h = let q = read-sound ws w r .0 in (padded-taken w q (good w z) b h, padded-right w q (good w z) b h)
-
--- ---- the same of the call, by its answer and the words that it leaves
+-- ---- of the call, by its answer and the words that it leaves
 -- the listing that the call says it wrote
 abbrev pub padListing : List ℕ → List ℕ → List ℕ
 padListing ws out = take (padAnswer ws out .words) (padLeft ws out)
+
+-- the columns in a store are right for the circuit of a listing's sections
+abbrev pub RightFor : Words → Store → Type 1
+RightFor v b = Right (settingFor (parametersAt (v .parameters)) (v .gates)) (given (v .rows) (v .sWords) (v .cells) (v .tables)) b
 
 pub record Full (ws out : List ℕ) : Type 1 where
   -- the circuit that was given
@@ -93,9 +76,11 @@ pub record Full (ws out : List ℕ) : Type 1 where
   pub is-read : read ws ≡ whole circuit
   -- "Circuits come and go as listings.": what was written is read as the padded circuit
   pub listing : read (padListing ws out) ≡ whole (padded circuit)
-  -- "The padded circuit must meet everything promised of a full one.": its run is accepted, unless a buffer is too short, and leaves columns that are right for it
-  pub accepted : (b : Store) → listedAnswer (padListing ws out) b .number ≢ 10 → listedAnswer (padListing ws out) b .number ≡ 0
-  pub right : (b : Store) → listedAnswer (padListing ws out) b .number ≢ 10 → RightFor (padded circuit) (listedLeft (padListing ws out) b)
+  -- "The padded circuit must meet everything promised of a full one.": its run is accepted in all buffers that have room, refused with 10 in all others, and where
+  -- it is accepted it leaves columns that are right for it
+  pub accepted : (b : Store) → roomToOpen (paddedSetting circuit) b ≡ true → listedAnswer (padListing ws out) b .number ≡ 0
+  pub short : (b : Store) → roomToOpen (paddedSetting circuit) b ≡ false → listedAnswer (padListing ws out) b .number ≡ 10
+  pub right : (b : Store) → listedAnswer (padListing ws out) b .number ≡ 0 → RightFor (padded circuit) (listedLeft (padListing ws out) b)
   -- "words past it keep their values"
   pub beyond : drop (padAnswer ws out .words) (padLeft ws out) ≡ drop (padAnswer ws out .words) out
 
@@ -120,21 +105,15 @@ module _ (ws out : List ℕ) where
       let g = good w (a .0) in
       let is : padListing ws out ≡ new = ap (λ (k : ℕ). take k (padLeft ws out)) n ∙ ap (take (length new)) l ∙ take-append-seam new (drop (length new) out) in
       let listing : read (padListing ws out) ≡ whole (padded w) = ap read is ∙ padded-read w q in
-      let accepted : (b : Store) → listedAnswer (padListing ws out) b .number ≢ 10 → listedAnswer (padListing ws out) b .number ≡ 0 =
-      λ b. subst (λ (v : List ℕ). listedAnswer v b .number ≢ 10 → listedAnswer v b .number ≡ 0) (sym is) (zero-unless (listedAnswer new b .number) (taken-or-10 w q g b))
-      in
       record {
         circuit = w;
         is-read = e;
         listing = listing;
-        accepted = accepted;
-        right = λ b d. listed-right (padListing ws out) b (padded w) listing (accepted b d);
+        accepted = λ b h. ap (λ (l : List ℕ). listedAnswer l b .number) is ∙ padded-taken w q g b h;
+        short = λ b h. ap (λ (l : List ℕ). listedAnswer l b .number) is ∙ padded-10 w q g b h;
+        right = λ b d. listed-right (padListing ws out) b (padded w) listing d;
         beyond = ap (λ (k : ℕ). drop k (padLeft ws out)) n ∙ ap (drop (length new)) l ∙ drop-append-seam new (drop (length new) out) ∙ ap (λ (k : ℕ). drop k out) (sym n);
       }
-    where
-      zero-unless : (n : ℕ) → (n ≡ 0) ⊎ (n ≡ 10) → n ≢ 10 → n ≡ 0
-      zero-unless n (inl z) d = z
-      zero-unless n (inr t) d = absurd (d t)
 
   pub pad-full : padAnswer ws out .number ≡ 0 → Full ws out
   unfolding padAnswer
