@@ -1,9 +1,9 @@
 -- Paths of gates that stand in a tree.
 --
 -- Main statements: `path-some` (a gate that stands has a path), `path-none`, `pathless` (one that does not has none), `path-fits` (path and constants fit into K
--- columns), `path-digits`, `bits-digits` (its words spell it), `paths-parted` (the paths of two gates part).
+-- columns), `path-digits`, `bits-digits` (its words spell it), `paths-parted` (the paths of two gates part), `only-path` (the only gate that stands has the empty path).
 use Prim.Native.Nat.{_%_, _*_, _+_, _/_, _<_, _≤_, max, ℕ}
-use borrow.Author.Tests.{eqb-true}
+use borrow.Author.Tests.{eq-eqb, eqb-true, ltb-true, ne-eqb}
 use lib.Dec.{eqb}
 use lib.ListN.{length}
 use mathlib.Core.Bool.{Bool, false, true}
@@ -11,13 +11,14 @@ use mathlib.Core.List.{List, [], _∷_}
 use mathlib.Core.Logic.{_≢_, _⊎_, inl, inr, ⊎-elim}
 use mathlib.Core.Option.{Option, none, some}
 use mathlib.Core.Path.{_∙_, _≡_, refl, subst, sym}
-use native.Mathlib.Decide.{decLt}
+use native.Mathlib.Decide.{decLt, ℕ-discrete}
 use native.Mathlib.Omega.{arith}
 use Rattle.base.specs.Digits.{digits}
 use Rattle.base.specs.Each.{Each}
-use Rattle.base.specs.Pick.{pick}
+use Rattle.base.specs.Pick.{both-true, pick}
 use Rattle.selector.specs.Gates.{constantsOf}
-use Rattle.selector.specs.Paths.{bitsOf, orEmpty, pathOf, pathTo, turned}
+use Rattle.selector.specs.MadeUp.{allListed}
+use Rattle.selector.specs.Paths.{bitsOf, orEmpty, pathOf, pathTo, selected, steps, turned}
 use Rattle.selector.specs.Search.{constantsOver, treeK}
 use Rattle.selector.specs.Tree.{Tree, fork, leaf, standing}
 
@@ -57,6 +58,50 @@ pathless t g e = by (decLt 0 (standing g t))
     by : Dec (0 < standing g t) → standing g t ≡ 0
     by (yes h) = let s = path-some t g h in absurd (let z : _≡_ {A = ℕ} 0 1 = cc (s .1, e) in omega arith)
     by (no h) = omega arith
+
+-- a gate that is not listed has none, where every leaf is listed
+pub unlisted-path : (m : ℕ) (t : Tree) (g : ℕ) → allListed m t ≡ true → m ≤ g → pathTo g t ≡ none
+unfolding allListed pathTo
+unlisted-path m (leaf h) g e k = rw (ne-eqb g h (omega (arith, ltb-true h m e)))
+unlisted-path m (fork l r) g e k =
+    let b = both-true (allListed m l) (allListed m r) e in
+    rw (unlisted-path m l g (b .0) k, unlisted-path m r g (b .1) k)
+
+-- some gate stands in every tree
+some-leaf : (m : ℕ) (t : Tree) → allListed m t ≡ true → (g : ℕ) × (g < m) × (0 < standing g t)
+unfolding allListed standing
+some-leaf m (leaf h) e = (h, ltb-true h m e, rw (eq-eqb h h refl) (omega arith))
+some-leaf m (fork l r) e =
+    let a = some-leaf m l (both-true (allListed m l) (allListed m r) e .0) in
+    (a .0, a .1, omega (arith, a .2))
+
+-- where no other listed gate stands, the two sides of a fork would both have the only one, which stands once: the tree is its leaf
+pub only-path : (m : ℕ) (t : Tree) (g : ℕ) → allListed m t ≡ true → standing g t ≡ 1 → ((h : ℕ) → h < m → h ≢ g → standing h t ≡ 0) → pathTo g t ≡ some []
+unfolding allListed standing pathTo
+only-path m (leaf h) g e one others = by (eqb g h) one
+  where
+    by : (b : Bool) → _≡_ {A = ℕ} (pick b 1 0) 1 → _≡_ {A = Option (List ℕ)} (pick b (some []) none) (some [])
+    by true z = refl
+    by false z = absurd (omega arith)
+only-path m (fork l r) g e one others = absurd (omega (arith, there l (sides .0) (λ h k n. omega (arith, others h k n)), there r (sides .1) (λ h k n. omega (arith, others h k n))))
+  where
+    sides : (allListed m l ≡ true) × (allListed m r ≡ true)
+    sides = both-true (allListed m l) (allListed m r) e
+
+    there : (t : Tree) → allListed m t ≡ true → ((h : ℕ) → h < m → h ≢ g → standing h t ≡ 0) → 0 < standing g t
+    there t listed none-else = by (ℕ-discrete (a .0) g)
+      where
+        a : (h : ℕ) × (h < m) × (0 < standing h t)
+        a = some-leaf m t listed
+
+        by : Dec (a .0 ≡ g) → 0 < standing g t
+        by (yes is) = rw is at (a .2)
+        by (no n) = absurd (omega (arith, a .2, none-else (a .0) (a .1) n))
+
+-- the steps of what is answered of a gate are its path, a dropped gate's being empty
+pub selected-steps : (o : Option (List ℕ)) → steps (selected o) ≡ orEmpty o
+selected-steps (some p) = refl
+selected-steps none = refl
 
 -- a path that is there, or the empty one
 pub path-cases : (P : List ℕ → Type 0) (g : ℕ) (t : Tree) → (pathTo g t ≡ none → P []) → ((p : List ℕ) → pathTo g t ≡ some p → P p) → P (pathOf g t)

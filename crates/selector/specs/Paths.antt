@@ -1,6 +1,6 @@
--- 01, 'Paths' (the Rust's output_placement): the way from the root to a gate's leaf, and its words.
+-- 01, 'Paths' (the Rust's output_placement): the way from the root to a gate's leaf, and its words. 02, Change 2: what is answered of a gate.
 --
--- Main definitions: `pathTo`, `pathOf`, `bitsOf`.
+-- Main definitions: `pathTo`, `pathOf`, `Selector`, `bitsOf`.
 use Prim.Native.Nat.{_*_, _+_, ℕ}
 use lib.Dec.{eqb}
 use mathlib.Core.List.{List, [], _∷_}
@@ -25,6 +25,23 @@ orEmpty none = []
 -- "a dropped gate's is empty"
 abbrev pub pathOf : ℕ → Tree → List ℕ
 pathOf g t = orEmpty (pathTo g t)
+
+-- 02, Change 2: "The path answer becomes one of three: a path, no selector, or unknown gate"
+pub data Selector : Type 0 where
+  path : List ℕ → Selector
+  noSelector : Selector
+  unknownGate : Selector
+
+-- a listed gate at a leaf has its path, one at no leaf, a dropped gate, has no selector
+abbrev pub selected : Option (List ℕ) → Selector
+selected (some p) = path p
+selected none = noSelector
+
+-- the steps that an answer has; only a path has any
+abbrev pub steps : Selector → List ℕ
+steps (path p) = p
+steps noSelector = []
+steps unknownGate = []
 
 -- "bits and a length": bit i, from the least, is step i from the root
 unfoldable pub bitsOf : List ℕ → ℕ

@@ -173,11 +173,3 @@ placed-read (fork l r) b w d s g k long =
     read-fork g (pathTo g l) (pathTo g r) b w d s (placed r b (w * 2) (d + 1) s) (placed l (b + w) (w * 2) (d + 1) (placed r b (w * 2) (d + 1) s))
     (placed-read r b (w * 2) (d + 1) s g k long)
     (placed-read l (b + w) (w * 2) (d + 1) (placed r b (w * 2) (d + 1) s) g k (placed-long r b (w * 2) (d + 1) s long))
-
--- a gate that is not listed has no path, where every leaf is listed
-pub unlisted-path : (m : ℕ) (t : Tree) (g : ℕ) → allListed m t ≡ true → m ≤ g → pathTo g t ≡ none
-unfolding allListed pathTo
-unlisted-path m (leaf h) g e k = rw (ne-eqb g h (omega (arith, ltb-true h m e)))
-unlisted-path m (fork l r) g e k =
-    let b = both-true (allListed m l) (allListed m r) e in
-    rw (unlisted-path m l g (b .0) k, unlisted-path m r g (b .1) k)

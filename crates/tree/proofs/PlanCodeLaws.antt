@@ -1,9 +1,10 @@
--- The methods of a plan: what the path's answer tells of the plan, the words of a path that was found, and the words of all gates.
-use Prim.Native.Nat.{_*_, _+_, _<_, _≤_, suc, zero, ℕ}
+-- The methods of a plan: what is answered of a gate, what that tells of the plan, and the words of all gates.
+use Prim.Native.Nat.{_*_, _+_, _-_, _<_, _≤_, suc, zero, ℕ}
 use borrow.Author.Tests.{eq-eqb, le-ltb, lt-ltb, ne-eqb}
 use lib.ListN.{getD, getD-replicate, length, length-replicate, replicate}
 use lib.Dec.{ltb}
 use lib.Seq.{ext-getD, getD-take}
+use mathlib.Core.Bool.{false, true}
 use mathlib.Core.List.{List}
 use mathlib.Core.Logic.{_≢_}
 use mathlib.Core.Option.{Option, none, some}
@@ -15,43 +16,57 @@ use Rattle.base.specs.Pick.{pick}
 use Rattle.base.specs.Tables.{table, table-at, table-length}
 use Rattle.selector.specs.Gates.{constantsOf, gateWords}
 use Rattle.selector.specs.MadeUp.{wanted}
-use Rattle.selector.specs.MadeUpLaws.{wanted-few}
-use Rattle.parameters.specs.Lookup.{flagOf}
 use Rattle.selector.specs.Nodes.{mostLevels, treeAt}
-use Rattle.selector.specs.Paths.{bitsOf, orEmpty, pathOf, pathTo}
+use Rattle.selector.specs.Paths.{bitsOf, pathTo, selected}
 use Rattle.base.specs.Limits.{mostGates}
 use Rattle.selector.specs.Tree.{Tree}
-use Rattle.tree.proofs.PathsLaws.{Long, Read, placed-long, placed-read, unlisted-path}
+use Rattle.selector.specs.PathLaws.{unlisted-path}
+use Rattle.tree.proofs.PathsLaws.{Long, Read, placed-long, placed-read}
 use Rattle.tree.specs.Placements.{PathWords, pathWords, placed, spelled}
-use Rattle.tree.specs.Plan.{forListed, gatesGiven, pathAnswer, planFault, planPath, planPlaced}
+use Rattle.tree.specs.Plan.{forListed, gatesGiven, pathAnswer, planFault, planPath, planSelection, planSelector, selectorAmong}
 use Rattle.tree.specs.PlanLaws.{Faultless, fault-none}
+use Rattle.tree.specs.Selection.{selection-steps, selectionBare, selectionBits, selectionLength, selectionNumber, selectionOf}
+use Rattle.tree.specs.SoundLaws.{bare-word}
 use Rattle.tree.specs.declared.paths.Placement.{Placement}
-use Rattle.tree.specs.declared.plan.Path.{Path}
+use Rattle.tree.specs.declared.plan.PathAnswer.{PathAnswer}
 use Rattle.tree.specs.declared.plan.Plan.{Plan}
+use Rattle.tree.specs.declared.selection.Selection.{Selection}
+use Rattle.tree.specs.declared.selection.Selection.the-variants.{NoSelector, Path, UnknownGate}
 
--- a placement's words are those of the path, none being empty
-spelled-path : (q : Option (List ℕ)) (r : Placement) → r ≡ spelled q
-    → _≡_ {A = Path} (record { number = 0; bits = r .bits; length = r .length }) (record { number = 0; bits = bitsOf (orEmpty q); length = length (orEmpty q) })
-unfolding bitsOf
-spelled-path (some p) r e = rw e refl
-spelled-path none r e = rw e refl
+-- a walk to a gate that found it, and one that did not
+found-by : (o : Option (List ℕ)) (r : Placement) → r ≡ spelled o → r .found ≡ true → Path (r .bits) (r .length) ≡ selectionOf (selected o)
+found-by (some p) r e f = rw e refl
+found-by none r e f = let z : _≡_ {A = ℕ} 0 1 = cc in absurd (omega arith)
 
--- the answer for a listed gate, where the walk from the root found its placement
-pub placed-path : (p : Plan) (g : ℕ) (r : Placement) → planFault p ≡ 0 → g < p .«gate_count» → ((t : Tree) → treeAt mostLevels (p .nodes) 0 ≡ some t → r ≡ spelled (pathTo g t))
-    → record { number = 0; bits = r .bits; length = r .length } ≡ pathAnswer p g
+lost-by : (o : Option (List ℕ)) (r : Placement) → r ≡ spelled o → r .found ≡ false → NoSelector ≡ selectionOf (selected o)
+lost-by (some p) r e f = let z : _≡_ {A = ℕ} 0 1 = cc in absurd (omega arith)
+lost-by none r e f = refl
+
+-- what is answered of a gate among `many`, by the tree at node 0: of one past them, and of one that the walk found or not
+module _ (many g : ℕ) (t : Tree) where
+  pub selection-past : many ≤ g → UnknownGate ≡ selectionOf (selectorAmong many (some t) g)
+  selection-past h = rw (le-ltb g many h)
+
+  pub selection-found : (r : Placement) → g < many → r ≡ spelled (pathTo g t) → r .found ≡ true → Path (r .bits) (r .length) ≡ selectionOf (selectorAmong many (some t) g)
+  selection-found r h e f = rw (lt-ltb g many h) (found-by (pathTo g t) r e f)
+
+  pub selection-lost : (r : Placement) → g < many → r ≡ spelled (pathTo g t) → r .found ≡ false → NoSelector ≡ selectionOf (selectorAmong many (some t) g)
+  selection-lost r h e f = rw (lt-ltb g many h) (lost-by (pathTo g t) r e f)
+
+-- the answer of a plan without a fault, whose nodes gave the selection
+pub path-answered : (p : Plan) (g n : ℕ) (s : Selection) → planFault p ≡ 0
+    → ((t : Tree) → treeAt mostLevels (p .nodes) 0 ≡ some t → s ≡ selectionOf (selectorAmong (p .«gate_count») (some t) g))
+    → n ≡ selectionNumber s → record { number = n; selection = s } ≡ pathAnswer p g
 unfolding pathAnswer
-placed-path p g r f h found =
+path-answered p g n s f walked e =
     let w = fault-none p f .nodes in
-    rw (eq-eqb (planFault p) 0 f, lt-ltb g (p .«gate_count») h, w .is) (spelled-path (pathTo g (w .tree)) r (found (w .tree) (w .is)))
+    let is : s ≡ planSelection p g = walked (w .tree) (w .is) ∙ ap (λ (o : Option Tree). selectionOf (selectorAmong (p .«gate_count») o g)) (sym (w .is)) in
+    rw (eq-eqb (planFault p) 0 f, ← is) (ap (λ (k : ℕ). record { number = k; selection = s }) e)
 
--- the two other answers are zeros
-pub path-made-up : (p : Plan) (g : ℕ) → planFault p ≢ 0 → pathAnswer p g ≡ record { number = 19; bits = 0; length = 0 }
+-- a made-up plan's is a path of zeros
+pub path-made-up : (p : Plan) (g : ℕ) → planFault p ≢ 0 → pathAnswer p g ≡ record { number = 19; selection = Path 0 0 }
 unfolding pathAnswer
 path-made-up p g n = rw (ne-eqb (planFault p) 0 n)
-
-pub path-unlisted : (p : Plan) (g : ℕ) → planFault p ≡ 0 → p .«gate_count» ≤ g → pathAnswer p g ≡ record { number = 12; bits = 0; length = 0 }
-unfolding pathAnswer
-path-unlisted p g f h = rw (eq-eqb (planFault p) 0 f, le-ltb g (p .«gate_count») h)
 
 -- no path yet
 abbrev pub zeroWords : PathWords
@@ -65,9 +80,9 @@ table-by f n new long at =
 zeros-long : Long zeroWords
 zeros-long = let e = length-replicate {A = ℕ} mostGates 0 in record { bits = e; lengths = e }
 
--- the words of a gate after a walk over zeros: those of its path, none being empty
+-- the words of a gate after a walk over zeros: those of its path, zeros where it has none
 read-zeros : (g : ℕ) (q : Option (List ℕ)) (v : PathWords) → g < mostGates → Read g q 0 1 0 zeroWords v
-    → (getD (v .bits) g 0 ≡ bitsOf (orEmpty q)) × (getD (v .lengths) g 0 ≡ length (orEmpty q))
+    → (getD (v .bits) g 0 ≡ selectionBits (selectionOf (selected q))) × (getD (v .lengths) g 0 ≡ selectionLength (selectionOf (selected q)))
 unfolding bitsOf
 read-zeros g (some p) v h r = (r .0 ∙ omega arith, r .1 ∙ omega arith)
 read-zeros g none v h r = (r .0 ∙ getD-replicate mostGates g 0 0 h, r .1 ∙ getD-replicate mostGates g 0 0 h)
@@ -92,11 +107,10 @@ listed-filled p f h new same fill =
 
 -- all paths, where the walk from the root wrote them over zeros
 pub paths-placed : (p : Plan) (v : PathWords) → planFault p ≡ 0 → ((t : Tree) → treeAt mostLevels (p .nodes) 0 ≡ some t → v ≡ placed t 0 1 0 zeroWords)
-    → (v .bits ≡ forListed p (λ (g : ℕ). bitsOf (planPath p g))) × (v .lengths ≡ forListed p (λ (g : ℕ). length (planPath p g)))
-unfolding bitsOf
+    → (v .bits ≡ forListed p (λ (g : ℕ). selectionBits (planSelection p g))) × (v .lengths ≡ forListed p (λ (g : ℕ). selectionLength (planSelection p g)))
 paths-placed p v f walked = (
-  listed-by p (λ (g : ℕ). bitsOf (planPath p g)) (v .bits) (long .bits) (λ g d l. rw (w .nodes .is) (words g l .0)) (λ g d l. rw (none-there g d) at (words g l .0)),
-  listed-by p (λ (g : ℕ). length (planPath p g)) (v .lengths) (long .lengths) (λ g d l. rw (w .nodes .is) (words g l .1)) (λ g d l. rw (none-there g d) at (words g l .1)),
+  listed-by p (λ (g : ℕ). selectionBits (planSelection p g)) (v .bits) (long .bits) (λ g d l. rw (lt-ltb g (p .«gate_count») d, w .nodes .is) (words g l .0)) (λ g d l. rw (none-there g d) at (words g l .0)),
+  listed-by p (λ (g : ℕ). selectionLength (planSelection p g)) (v .lengths) (long .lengths) (λ g d l. rw (lt-ltb g (p .«gate_count») d, w .nodes .is) (words g l .1)) (λ g d l. rw (none-there g d) at (words g l .1)),
 )
   where
     w : Faultless p
@@ -111,7 +125,8 @@ paths-placed p v f walked = (
     long : Long v
     long = rw is (placed-long t 0 1 0 zeroWords zeros-long)
 
-    words : (g : ℕ) → g < mostGates → (getD (v .bits) g 0 ≡ bitsOf (pathOf g t)) × (getD (v .lengths) g 0 ≡ length (pathOf g t))
+    words : (g : ℕ) → g < mostGates
+        → (getD (v .bits) g 0 ≡ selectionBits (selectionOf (selected (pathTo g t)))) × (getD (v .lengths) g 0 ≡ selectionLength (selectionOf (selected (pathTo g t))))
     words g h = read-zeros g (pathTo g t) v h (rw is (placed-read t 0 1 0 zeroWords g h zeros-long))
 
     none-there : (g : ℕ) → p .«gate_count» ≤ g → pathTo g t ≡ none
@@ -126,30 +141,35 @@ own-given q x g h =
       getD-take (q .«gate_count» * gateWords) (q .gates) (g * gateWords + 2) 0 (omega arith),
     )
 
-few-flag : (n : ℕ) → n ≤ 1 → n ≡ flagOf (ltb 0 n)
-few-flag zero h = refl
-few-flag (suc zero) h = refl
-few-flag (suc (suc n)) h = absurd (omega arith)
+bare-flag : (n : ℕ) → 1 - n ≡ pick (ltb 0 n) 0 1
+bare-flag zero = refl
+bare-flag (suc n) = rw (lt-ltb 0 (suc n) (omega arith)) (omega arith)
 
-pub placed-given : (q : Plan) (g : ℕ) → g < q .«gate_count» → wanted (q .gates) (q .«gate_count») g ≡ flagOf (planPlaced q g)
+pub bare-given : (q : Plan) → planFault q ≡ 0 → (g : ℕ) → g < q .«gate_count» → 1 - wanted (q .gates) (q .«gate_count») g ≡ selectionBare (planSelection q g)
 unfolding wanted
-placed-given q g h =
+bare-given q f g h =
     rw (← getD-take (q .«gate_count» * gateWords) (q .gates) (g * gateWords) 0 (omega arith))
-    (few-flag (wanted (gatesGiven q) (q .«gate_count») g) (wanted-few (gatesGiven q) (q .«gate_count») g))
+    (bare-flag (wanted (gatesGiven q) (q .«gate_count») g) ∙ sym (bare-word q f g h))
 
--- gate 0's path in a plan without a fault
-pub record Fine0 (p : Plan) (r : Path) : Type 0 where
+-- gate 0 is listed in a plan without a fault
+pub record Fine0 (p : Plan) (r : PathAnswer) : Type 0 where
   pub number : r .number ≡ 0
-  pub steps : r .length ≡ length (planPath p 0)
+  pub steps-are : selectionLength (r .selection) ≡ length (planPath p 0)
 
-module _ (p : Plan) (r : Path) (e : r ≡ pathAnswer p 0) where
+module _ (p : Plan) (r : PathAnswer) (e : r ≡ pathAnswer p 0) where
   pub path-refused : planFault p ≡ 0 → Fine0 p r
   unfolding pathAnswer
   path-refused f =
       let w = fault-none p f in
-      let a : pathAnswer p 0 ≡ record { number = 0; bits = bitsOf (planPath p 0); length = length (planPath p 0) } =
-      rw (eq-eqb (planFault p) 0 f, lt-ltb 0 (p .«gate_count») (w .some-gates)) in
-      record { number = ap (λ (z : Path). z .number) (e ∙ a); steps = ap (λ (z : Path). z .length) (e ∙ a) }
+      let a : r ≡ record { number = selectionNumber (planSelection p 0); selection = planSelection p 0 } = e ∙ rw (eq-eqb (planFault p) 0 f) in
+      record {
+        number = ap (λ (z : PathAnswer). z .number) a ∙ rw (lt-ltb 0 (p .«gate_count») (w .some-gates), w .nodes .is) (listed-number (pathTo 0 (w .nodes .tree)));
+        steps-are = ap (λ (z : PathAnswer). selectionLength (z .selection)) a ∙ selection-steps (planSelector p 0) .1;
+      }
+    where
+      listed-number : (o : Option (List ℕ)) → selectionNumber (selectionOf (selected o)) ≡ 0
+      listed-number (some q) = refl
+      listed-number none = refl
 
   pub path-fine : r .number ≡ 0 → planFault p ≡ 0
   path-fine z = go (ℕ-discrete (planFault p) 0)
@@ -157,4 +177,4 @@ module _ (p : Plan) (r : Path) (e : r ≡ pathAnswer p 0) where
       go : Dec (planFault p ≡ 0) → planFault p ≡ 0
       go (yes f) = f
       go (no n) =
-          absurd (omega (arith, z, ap (λ (y : Path). y .number) (e ∙ path-made-up p 0 n)))
+          absurd (omega (arith, z, ap (λ (y : PathAnswer). y .number) (e ∙ path-made-up p 0 n)))

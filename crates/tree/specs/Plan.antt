@@ -1,6 +1,6 @@
 -- 01, 'When a call is turned down' and 'Gates and tree': what planning, the test for a made-up plan, paths and the table-id index answer, for any arguments.
 --
--- Main definitions: `planNumber`, `planned`, `planIn`, `planFault`, `pathAnswer`, `gateRowsAnswer`, `tableIdAnswer`.
+-- Main definitions: `planNumber`, `planned`, `planIn`, `planFault`, `planSelector`, `pathAnswer`, `gateRowsAnswer`, `tableIdAnswer`.
 use Prim.Native.Nat.{_*_, ℕ}
 use lib.Dec.{eqb, leb, ltb}
 use lib.ListN.{drop, length, replicate, take}
@@ -13,23 +13,26 @@ use Rattle.base.specs.Tables.{table}
 use Rattle.selector.specs.Gates.{constantsOf, gateSlots, gateWords}
 use Rattle.selector.specs.MadeUp.{nodesFit, wanted}
 use Rattle.selector.specs.Nodes.{mostLevels, nodeSlots, treeAt}
-use Rattle.selector.specs.Paths.{bitsOf, pathOf}
+use Rattle.selector.specs.Paths.{Selector, noSelector, pathTo, selected, steps, unknownGate}
 use Rattle.base.specs.Limits.{mostGates}
 use Rattle.selector.specs.Refusals.{extraOf, gateCount, gatesNumber, wordsFit}
 use Rattle.selector.specs.Search.{planTree}
 use Rattle.selector.specs.Tree.{Tree}
 use Rattle.parameters.specs.Lookup.{flagOf, modeOf, shareOf, widthOf}
 use Rattle.parameters.specs.Parameters.{lookupOf, parametersNumber}
+use Rattle.tree.specs.Selection.{selectionBare, selectionBits, selectionLength, selectionNumber, selectionOf}
 use Rattle.tree.specs.Shapes.{shapeOf}
 use Rattle.parameters.specs.declared.lookup.LookupParameters.the-variants.{NoLookup}
 use Rattle.tree.specs.declared.gate_rows.GateRows.{GateRows}
 use Rattle.tree.specs.declared.nodes.Shape.{Shape}
 use Rattle.parameters.specs.declared.parameters.Parameters.{Parameters}
 use Rattle.tree.specs.declared.plan.Outline.{Outline}
-use Rattle.tree.specs.declared.plan.Path.{Path}
+use Rattle.tree.specs.declared.plan.PathAnswer.{PathAnswer}
 use Rattle.tree.specs.declared.plan.Plan.{Plan}
 use Rattle.tree.specs.declared.plan.TableId.{TableId}
 use Rattle.tree.specs.declared.planning.Planned.{Planned}
+use Rattle.tree.specs.declared.selection.Selection.{Selection}
+use Rattle.tree.specs.declared.selection.Selection.the-variants.{Path}
 
 -- "Refused planning, path or opening hands back a plan, path or state of zeros"
 abbrev pub zeroPlan : Plan
@@ -169,22 +172,31 @@ planFault p =
     (pick (nodesFit (planExtra p) (gatesGiven p) (p .«gate_count») (p .nodes) (p .«node_count») (p .degree) (p .constants) (p .factor)) 0 19)
     19) 19) 19) 19) 19) 19
 
--- the path of a gate in a plan's tree; a gate at no leaf, a dropped one, has the empty path
-abbrev pub pathIn : Option Tree → ℕ → List ℕ
-pathIn none g = []
-pathIn (some t) g = pathOf g t
+-- what is answered of a listed gate, by the plan's tree
+abbrev pub selectorIn : Option Tree → ℕ → Selector
+selectorIn none g = noSelector
+selectorIn (some t) g = selected (pathTo g t)
 
+-- 02, Change 2: "one of three: a path, no selector, or unknown gate", of a gate beside so many listed ones
+abbrev pub selectorAmong : ℕ → Option Tree → ℕ → Selector
+selectorAmong many o g = pick (ltb g many) (selectorIn o g) unknownGate
+
+abbrev pub planSelector : Plan → ℕ → Selector
+planSelector p g = selectorAmong (p .«gate_count») (treeAt mostLevels (p .nodes) 0) g
+
+abbrev pub planSelection : Plan → ℕ → Selection
+planSelection p g = selectionOf (planSelector p g)
+
+-- "The row writer, the table-id index .. take it": the steps of that answer
 abbrev pub planPath : Plan → ℕ → List ℕ
-planPath p g = pathIn (treeAt mostLevels (p .nodes) 0) g
+planPath p g = steps (planSelector p g)
 
--- "Path: 19; 12 gate not listed."
-unfoldable pub pathAnswer : Plan → ℕ → Path
+-- "Path: 19; 12 gate not listed.", "19 is tested before them as today"; a refused path is of zeros
+unfoldable pub pathAnswer : Plan → ℕ → PathAnswer
 pathAnswer p g =
     pick (eqb (planFault p) 0)
-    (pick (ltb g (p .«gate_count»))
-    (record { number = 0; bits = bitsOf (planPath p g); length = length (planPath p g) })
-    (record { number = 12; bits = 0; length = 0 }))
-    (record { number = 19; bits = 0; length = 0 })
+    (record { number = selectionNumber (planSelection p g); selection = planSelection p g })
+    (record { number = 19; selection = Path 0 0 })
 
 -- a gate's own number of constants
 abbrev pub planOwn : Plan → ℕ → ℕ
@@ -198,15 +210,15 @@ planPlaced p g = ltb 0 (wanted (gatesGiven p) (p .«gate_count») g)
 abbrev pub forListed : Plan → (ℕ → ℕ) → List ℕ
 forListed p f = table mostGates (λ (g : ℕ). pick (ltb g (p .«gate_count»)) (f g) 0)
 
--- what rows need of each gate: its path, whether it has a selector, its own number of constants
+-- what rows need of each gate: what is answered of it, and its own number of constants
 abbrev pub gateRowsOf : Plan → GateRows
 gateRowsOf p =
     record {
       number = 0;
       many = p .«gate_count»;
-      bits = forListed p (λ (g : ℕ). bitsOf (planPath p g));
-      steps = forListed p (λ (g : ℕ). length (planPath p g));
-      selected = forListed p (λ (g : ℕ). flagOf (planPlaced p g));
+      bits = forListed p (λ (g : ℕ). selectionBits (planSelection p g));
+      steps = forListed p (λ (g : ℕ). selectionLength (planSelection p g));
+      bare = forListed p (λ (g : ℕ). selectionBare (planSelection p g));
       own = forListed p (planOwn p);
     }
 
@@ -217,7 +229,7 @@ noGateRows =
       many = 0;
       bits = replicate mostGates 0;
       steps = replicate mostGates 0;
-      selected = replicate mostGates 0;
+      bare = replicate mostGates 0;
       own = replicate mostGates 0;
     }
 

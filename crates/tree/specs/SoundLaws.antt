@@ -1,17 +1,17 @@
 -- What a plan that passes 19 gives the layers above: the ranges of its numbers, its paths, its gates' constants, and what it answers of them.
 --
--- Main definitions: `Sound`, `GateWords`. Main statements: `sound`, `path-answers`, `gate-words`, `placed-parted`, `dropped-bare`.
+-- Main definitions: `Sound`, `GateWords`. Main statements: `sound`, `selector-known`, `only-placed`, `path-kept`, `selection-read`, `gate-words`, `placed-parted`, `dropped-bare`.
 use Prim.Native.Nat.{_*_, _+_, _<_, _≤_, ℕ}
-use borrow.Author.Tests.{eq-eqb, lt-ltb, ltb-false, ltb-true}
+use borrow.Author.Tests.{eq-eqb, le-ltb, lt-ltb, ltb-false, ltb-true}
 use lib.Dec.{ltb}
 use lib.ListN.{getD, length}
 use lib.Seq.{length-take-le}
-use mathlib.Core.Bool.{false, true}
+use mathlib.Core.Bool.{Bool, false, true}
 use mathlib.Core.List.{List, []}
 use mathlib.Core.Logic.{_≢_}
 use mathlib.Core.Option.{Option, none, some}
-use mathlib.Core.Path.{_∙_, _≡_, ap, refl, subst, sym}
-use native.Mathlib.Decide.{ℕ-discrete}
+use mathlib.Core.Path.{_∙_, _≡_, ap, fun-ext, refl, sym}
+use native.Mathlib.Decide.{decLt, ℕ-discrete}
 use native.Mathlib.Omega.{arith}
 use Rattle.base.specs.Digits.{Spelled}
 use Rattle.base.specs.Each.{Each}
@@ -24,19 +24,26 @@ use Rattle.labels.specs.RangesLaws.{Ranges, ranges-fit}
 use Rattle.selector.specs.Gates.{gateWords}
 use Rattle.selector.specs.Inner.{Sound as Records}
 use Rattle.selector.specs.MadeUp.{wanted}
-use Rattle.selector.specs.MadeUpLaws.{Sturdy, tree-constants, unwanted-bare}
-use Rattle.selector.specs.PathLaws.{Parted, bits-digits, path-cases, path-digits, path-fits, path-none, path-some, pathless, paths-parted}
-use Rattle.selector.specs.Paths.{bitsOf, orEmpty, pathOf, pathTo}
+use Rattle.selector.specs.MadeUpLaws.{Sturdy, tree-constants, unwanted-bare, wanted-few}
+use Rattle.selector.specs.Nodes.{mostLevels, treeAt}
+use Rattle.selector.specs.PathLaws.{Parted, bits-digits, only-path, path-cases, path-digits, path-fits, path-none, path-some, pathless, paths-parted, selected-steps, unlisted-path}
+use Rattle.selector.specs.Paths.{Selector, noSelector, orEmpty, path, pathOf, pathTo, selected, steps, unknownGate}
 use Rattle.selector.specs.RecordLaws.{gates-sound}
 use Rattle.selector.specs.Refusals.{gatesNumber, recordsNumber}
-use Rattle.selector.specs.Tree.{Tree}
-use Rattle.parameters.specs.Lookup.{flagOf, modeOf, widthOf}
+use Rattle.selector.specs.Tree.{Tree, standing}
+use Rattle.parameters.specs.Lookup.{modeOf, widthOf}
 use Rattle.parameters.specs.Parameters.{flagNumber, parametersNumber, rangeNumber}
 use Rattle.parameters.specs.ParametersLaws.{InRange, in-range}
-use Rattle.tree.specs.Plan.{forListed, gateRowsAnswer, gateRowsOf, gatesGiven, parametersOf, pathAnswer, pathIn, planExtra, planFault, planOwn, planPath, planPlaced}
+use Rattle.tree.specs.Plan.{forListed, gateRowsAnswer, gateRowsOf, gatesGiven, parametersOf, planExtra, planFault, planOwn, planPath, planPlaced, planSelection, planSelector}
 use Rattle.tree.specs.PlanLaws.{Faultless, fault-none}
+use Rattle.tree.specs.Selection.{selection-steps, selectionBare, selectionBits, selectionLength, selectionOf, selectorOf}
 use Rattle.tree.specs.declared.gate_rows.GateRows.{GateRows}
 use Rattle.tree.specs.declared.plan.Plan.{Plan}
+
+-- the path of a gate in a tree; a gate at no leaf, a dropped one, has the empty path
+abbrev pub pathIn : Option Tree → ℕ → List ℕ
+pathIn none g = []
+pathIn (some t) g = pathOf g t
 
 -- the ranges of a sound plan's numbers, and its paths
 pub record Sound (q : Plan) : Type 0 where
@@ -54,7 +61,7 @@ pub record Sound (q : Plan) : Type 0 where
 -- the words of a listed gate in an answer for all gates
 pub record GateWords (q : Plan) (r : GateRows) (g : ℕ) : Type 0 where
   pub path : Spelled (planPath q g) (getD (r .bits) g 0) (getD (r .steps) g 0)
-  pub selected : getD (r .selected) g 0 ≡ flagOf (planPlaced q g)
+  pub bare : getD (r .bare) g 0 ≡ pick (planPlaced q g) 0 1
   pub own : getD (r .own) g 0 ≡ planOwn q g
 
 module _ (q : Plan) (e : planFault q ≡ 0) where
@@ -74,8 +81,17 @@ module _ (q : Plan) (e : planFault q ≡ 0) where
   unfolding parametersNumber
   given = in-range (parametersOf q) (first-zero (rangeNumber (parametersOf q)) (flagNumber (parametersOf q)) (whole .parameters) .0)
 
+  -- the steps of an answer, listed or not, are the gate's path in the tree
   path-is : (g : ℕ) → planPath q g ≡ pathOf g (nodes .tree)
-  path-is g = ap (λ (o : Option Tree). pathIn o g) (nodes .is)
+  path-is g = by (decLt g many)
+    where
+      by : Dec (g < many) → planPath q g ≡ pathOf g (nodes .tree)
+      by (yes h) = rw (lt-ltb g many h, nodes .is) (selected-steps (pathTo g (nodes .tree)))
+      by (no h) = rw (le-ltb g many (omega arith), unlisted-path many (nodes .tree) g (nodes .listed) (omega arith)) refl
+
+  -- 02, Change 2: "Columns are unaffected": what rows and the table-id index take of a gate is what they took, its path in the tree and none of a dropped gate's
+  pub path-kept : planPath q ≡ pathIn (treeAt mostLevels (q .nodes) 0)
+  path-kept = fun-ext (λ g. path-is g ∙ sym (ap (λ (o : Option Tree). pathIn o g) (nodes .is)))
 
   records : Records words many (planExtra q)
   records =
@@ -113,12 +129,54 @@ module _ (q : Plan) (e : planFault q ≡ 0) where
       }
 
   -- a path's words spell it
-  spelled : (g : ℕ) → Spelled (planPath q g) (bitsOf (planPath q g)) (length (planPath q g))
-  spelled g = record { digits-are = bits-digits (planPath q g) (sound .digits g); steps-are = refl }
+  spelled : (g : ℕ) → Spelled (planPath q g) (selectionBits (planSelection q g)) (selectionLength (planSelection q g))
+  spelled g =
+      let w = selection-steps (planSelector q g) in
+      rw (w .0, w .1) (record { digits-are = bits-digits (planPath q g) (sound .digits g); steps-are = refl })
 
-  pub path-answers : (g : ℕ) → g < many → Spelled (planPath q g) (pathAnswer q g .bits) (pathAnswer q g .length)
-  unfolding pathAnswer
-  path-answers g h = rw (eq-eqb (planFault q) 0 e, lt-ltb g many h) (spelled g)
+  -- and nothing is lost in words
+  pub selection-read : (g : ℕ) → selectorOf (planSelection q g) ≡ planSelector q g
+  selection-read g = by (planSelector q g) (sound .digits g)
+    where
+      by : (s : Selector) → Each (λ (d : ℕ). d < 2) (steps s) → selectorOf (selectionOf s) ≡ s
+      by (path p) e = ap path (bits-digits p e)
+      by noSelector e = refl
+      by unknownGate e = refl
+
+  -- a placed gate has a path in the tree
+  placed-path : (g : ℕ) → g < many → planPlaced q g ≡ true → (p : List ℕ) × (pathTo g (nodes .tree) ≡ some p) × (planPath q g ≡ p)
+  placed-path g h w =
+      let p = path-some (nodes .tree) g (omega (arith, nodes .once g h, ltb-true 0 (wanted words many g) w)) in
+      (p .0, p .1, path-is g ∙ ap orEmpty (p .1))
+
+  -- a dropped one has none
+  dropped-path : (g : ℕ) → g < many → planPlaced q g ≡ false → pathTo g (nodes .tree) ≡ none
+  dropped-path g h w = path-none (nodes .tree) g (nodes .once g h ∙ omega (arith, ltb-false 0 (wanted words many g) w))
+
+  -- 02, Change 2, of a listed gate: one that is placed has its path, one that is not, a kind 2 gate of a longer list, has no selector
+  pub selector-known : (g : ℕ) → g < many → planSelector q g ≡ pick (planPlaced q g) (path (planPath q g)) noSelector
+  selector-known g h = by (planPlaced q g) refl
+    where
+      listed : planSelector q g ≡ selected (pathTo g (nodes .tree))
+      listed = rw (lt-ltb g many h, nodes .is) refl
+
+      by : (b : Bool) → planPlaced q g ≡ b → planSelector q g ≡ pick b (path (planPath q g)) noSelector
+      by true w = let p = placed-path g h w in listed ∙ ap selected (p .1) ∙ ap path (sym (p .2))
+      by false w = listed ∙ ap selected (dropped-path g h w)
+
+  pub bare-word : (g : ℕ) → g < many → selectionBare (planSelection q g) ≡ pick (planPlaced q g) 0 1
+  bare-word g h = ap (λ (s : Selector). selectionBare (selectionOf s)) (selector-known g h) ∙ by (planPlaced q g)
+    where
+      by : (b : Bool) → selectionBare (selectionOf (pick b (path (planPath q g)) noSelector)) ≡ pick b 0 1
+      by true = refl
+      by false = refl
+
+  -- "A lone gate still has an empty path", and so has the only placed gate of a longer list
+  pub only-placed : (g : ℕ) → g < many → planPlaced q g ≡ true → ((h : ℕ) → h < many → h ≢ g → planPlaced q h ≡ false) → planSelector q g ≡ path []
+  only-placed g h w others =
+      let one : standing g (nodes .tree) ≡ 1 = omega (arith, nodes .once g h, ltb-true 0 (wanted words many g) w, wanted-few words many g) in
+      let empty = only-path many (nodes .tree) g (nodes .listed) one (λ k l n. nodes .once k l ∙ omega (arith, ltb-false 0 (wanted words many k) (others k l n))) in
+      rw (lt-ltb g many h, nodes .is, empty) refl
 
   -- the answer for all gates
   rows-are : gateRowsAnswer q ≡ gateRowsOf q
@@ -134,20 +192,15 @@ module _ (q : Plan) (e : planFault q ≡ 0) where
 
     pub gate-words : (g : ℕ) → g < many → GateWords q r g
     gate-words g h =
-        let b : getD (r .bits) g 0 ≡ bitsOf (planPath q g) = ap (λ (z : GateRows). getD (z .bits) g 0) (a ∙ rows-are) ∙ listed-word (λ (k : ℕ). bitsOf (planPath q k)) g h in
-        let s : getD (r .steps) g 0 ≡ length (planPath q g) = ap (λ (z : GateRows). getD (z .steps) g 0) (a ∙ rows-are) ∙ listed-word (λ (k : ℕ). length (planPath q k)) g h in
+        let b : getD (r .bits) g 0 ≡ selectionBits (planSelection q g) = ap (λ (z : GateRows). getD (z .bits) g 0) (a ∙ rows-are) ∙ listed-word (λ (k : ℕ). selectionBits (planSelection q k)) g h in
+        let s : getD (r .steps) g 0 ≡ selectionLength (planSelection q g) = ap (λ (z : GateRows). getD (z .steps) g 0) (a ∙ rows-are) ∙ listed-word (λ (k : ℕ). selectionLength (planSelection q k)) g h in
         record {
           path = rw (b, s) (spelled g);
-          selected = ap (λ (z : GateRows). getD (z .selected) g 0) (a ∙ rows-are) ∙ listed-word (λ (k : ℕ). flagOf (planPlaced q k)) g h;
+          bare = ap (λ (z : GateRows). getD (z .bare) g 0) (a ∙ rows-are) ∙ listed-word (λ (k : ℕ). selectionBare (planSelection q k)) g h ∙ bare-word g h;
           own = ap (λ (z : GateRows). getD (z .own) g 0) (a ∙ rows-are) ∙ listed-word (planOwn q) g h;
         }
 
-  -- a placed gate has a path in the tree, and the paths of two part
-  placed-path : (g : ℕ) → g < many → planPlaced q g ≡ true → (p : List ℕ) × (pathTo g (nodes .tree) ≡ some p) × (planPath q g ≡ p)
-  placed-path g h w =
-      let p = path-some (nodes .tree) g (omega (arith, nodes .once g h, ltb-true 0 (wanted words many g) w)) in
-      (p .0, p .1, path-is g ∙ ap orEmpty (p .1))
-
+  -- the paths of two placed gates part
   pub placed-parted : (g k : ℕ) → g < many → k < many → planPlaced q g ≡ true → planPlaced q k ≡ true → g ≢ k → Parted (planPath q g) (planPath q k)
   placed-parted g k hg hk wg wk d =
       let a = placed-path g hg wg in
@@ -158,4 +211,4 @@ module _ (q : Plan) (e : planFault q ≡ 0) where
   pub dropped-bare : (g : ℕ) → g < many → planPlaced q g ≡ false → (planPath q g ≡ []) × (planOwn q g ≡ 0)
   dropped-bare g h w =
       let z : wanted words many g ≡ 0 = omega (arith, ltb-false 0 (wanted words many g) w) in
-      (path-is g ∙ ap orEmpty (path-none (nodes .tree) g (nodes .once g h ∙ z)), bare g h z)
+      (path-is g ∙ ap orEmpty (dropped-path g h w), bare g h z)

@@ -9,3 +9,4 @@ pub mod plan;
 pub mod planning;
 mod refusals;
 mod search;
+pub mod selection;

@@ -1,7 +1,14 @@
 // Plans: the test for a made-up plan, paths, what rows need of the gates, and the table-id index, each of a plan's parts, which are lent; the same of a plan by value.
 ghost use mathlib.Core.Path.{_≡_};
+ghost use mathlib.Core.Option.{some};
+ghost use Prim.Native.Nat.{ℕ, _≤_, _<_};
+ghost use lib.ListN.{length};
 ghost use Rattle.parameters.specs.Lookup.{flagOf};
-ghost use Rattle.tree.specs.Plan.{zeroPlan, parametersIn, outlineOf, planIn, planFault, pathAnswer, gateRowsAnswer, tableIdAnswer};
+ghost use Rattle.selector.specs.Tree.{Tree};
+ghost use Rattle.selector.specs.Nodes.{treeAt, mostNodes, nodeSlots, mostLevels};
+ghost use Rattle.selector.specs.Walk.{Links};
+ghost use Rattle.tree.specs.Selection.{selectionOf};
+ghost use Rattle.tree.specs.Plan.{zeroPlan, parametersIn, outlineOf, planIn, planFault, selectorAmong, pathAnswer, gateRowsAnswer, tableIdAnswer};
 use crate::gate_rows::GateRows;
 use crate::gate_rows::list_gates;
 use crate::gate_rows::no_gate_rows;
@@ -10,6 +17,7 @@ use crate::paths::all_placements;
 use crate::paths::output_placement;
 use crate::refusals::extra_of;
 use crate::refusals::gates_number;
+use crate::selection::Selection;
 use parameters::lookup::LookupParameters;
 use parameters::parameters::Parameters;
 use selector::GATE_SLOTS;
@@ -57,11 +65,10 @@ pub struct Outline {
     pub told: Told,
 }
 
-// A refusal number, or 0, and a path: bit i, from the least, is step i from the root.
-pub struct Path {
+// A refusal number, or 0, and what is answered of a gate; a path of zeros for a made-up plan.
+pub struct PathAnswer {
     pub number: u64,
-    pub bits: u64,
-    pub length: u64,
+    pub selection: Selection,
 }
 
 // A refusal number, or 0, and how many table-id columns there are, none or one, with its index.
@@ -155,45 +162,56 @@ pub fn parts_rows<'a>(outline: Outline, gates: &'a [u64], nodes: &'a [u64]) -> G
     let mut steps = [0; MOST_GATES];
     let count = outline.node_count as usize;
     all_placements(nodes, count, 0, 0, 1, 0, MOST_LEVELS, &mut bits, &mut steps);
-    let mut selected = [0; MOST_GATES];
+    let mut bare = [0; MOST_GATES];
     let mut own = [0; MOST_GATES];
     let many = outline.gate_count;
     let lookup = outline.lookup;
     let extra = extra_of(lookup.mode());
-    list_gates(gates, many as usize, extra, &mut selected, &mut own);
+    list_gates(gates, many as usize, extra, &mut bare, &mut own);
     GateRows {
         number: 0,
         many: many,
         bits: bits,
         steps: steps,
-        selected: selected,
+        bare: bare,
         own: own,
     }
 }
 
-// The path of a gate in a plan, from its parts: 19 first, then 12 for a gate that is not listed. A dropped gate's path is empty.
-pub fn parts_path<'a>(outline: Outline, gates: &'a [u64], nodes: &'a [u64], gate: u64) -> Path
+// What the nodes of a plan without a fault answer of one of `many` listed gates.
+fn selection_in(nodes: &[u64], count: usize, many: u64, gate: u64) -> Selection
+    requires { ⌜ Links (now nodes) count ⌝ }
+    requires { ⌜ (0 < count) × (count ≤ mostNodes) × (nodeSlots ≤ length (now nodes)) ⌝ }
+    ensures { λ r. ⌜ ((t : Tree) → treeAt mostLevels (now (nodes .entry)) 0 ≡ some t → r ≡ selectionOf (selectorAmong many (some t) gate)) ⌝ }
+{
+    if many <= gate {
+        return Selection::UnknownGate;
+    }
+    let found = output_placement(nodes, count, 0, gate, MOST_LEVELS);
+    if found.found {
+        return Selection::Path {
+            bits: found.bits,
+            length: found.length,
+        };
+    }
+    Selection::NoSelector
+}
+
+// What a plan answers of a gate, from its parts: 19 first, then one of three, a path, no selector for a dropped gate, or unknown, 12.
+pub fn parts_path<'a>(outline: Outline, gates: &'a [u64], nodes: &'a [u64], gate: u64) -> PathAnswer
     ensures { λ r. ⌜ r ≡ pathAnswer (planIn outline (now (gates .entry)) (now (nodes .entry))) gate ⌝ }
 {
     if parts_fault(outline, gates, nodes) != 0 {
-        return Path {
+        return PathAnswer {
             number: 19,
-            bits: 0,
-            length: 0,
+            selection: Selection::Path { bits: 0, length: 0 },
         };
     }
-    if outline.gate_count <= gate {
-        return Path {
-            number: 12,
-            bits: 0,
-            length: 0,
-        };
-    }
-    let found = output_placement(nodes, outline.node_count as usize, 0, gate, MOST_LEVELS);
-    Path {
-        number: 0,
-        bits: found.bits,
-        length: found.length,
+    let count = outline.node_count as usize;
+    let selection = selection_in(nodes, count, outline.gate_count, gate);
+    PathAnswer {
+        number: selection.number(),
+        selection: selection,
     }
 }
 
@@ -212,10 +230,11 @@ pub fn parts_table_id<'a>(outline: Outline, gates: &'a [u64], nodes: &'a [u64]) 
     let lookup = outline.lookup;
     let mode = lookup.mode();
     if mode == 2 {
+        let selection = path.selection;
         return TableId {
             number: 0,
             count: 1,
-            index: path.length,
+            index: selection.length(),
         };
     }
     if mode == 4 {
@@ -286,8 +305,8 @@ impl Plan {
         parts_fault(self.outline(), &gates, &nodes)
     }
 
-    // The path of a gate.
-    pub fn path(self, gate: u64) -> Path
+    // What is answered of a gate.
+    pub fn path(self, gate: u64) -> PathAnswer
         ensures { λ r. ⌜ r ≡ pathAnswer self gate ⌝ }
     {
         let gates = self.gates;

@@ -1,33 +1,39 @@
 -- `gate_rows::list_gates` meets its contract: the words of the gates passed are filled in.
 -- Assumes nothing.
-use Prim.Native.Nat.{_-_, _≤_}
+use Prim.Native.Nat.{_-_, _≤_, ℕ}
 use borrow.Author.Needs.{needs}
 use lib.ListN.{length}
-use mathlib.Core.Path.{_≡_}
+use mathlib.Core.Path.{_≡_, ap}
 use native.Mathlib.Omega.{arith}
 use Rattle.base.specs.Fills.{Filled, filled-next, filled-none}
 use Rattle.selector.specs.Gates.{constantsOf}
 use Rattle.selector.specs.MadeUp.{wanted}
+use Rattle.selector.specs.MadeUpLaws.{wanted-few}
 use Rattle.tree.proofs.gate_rows.list_gates.Statement.{statement}
 use Rattle.tree.proofs.gate_rows.list_gates.Tie as tie
 
 abbrev Inv-loop : tie.InvT-loop
-Inv-loop gates many extra selected₀ own₀ g₀ selected own g = (g ≤ many) × Filled (wanted gates many) 0 g selected₀ selected × Filled (constantsOf extra gates) 0 g own₀ own
+Inv-loop gates many extra bare₀ own₀ g₀ bare own g = (g ≤ many) × Filled (λ (k : ℕ). 1 - wanted gates many k) 0 g bare₀ bare × Filled (constantsOf extra gates) 0 g own₀ own
 
 abbrev μ-loop : tie.MeasureT-loop
-μ-loop gates many extra selected₀ own₀ g₀ selected own g = many - g
+μ-loop gates many extra bare₀ own₀ g₀ bare own g = many - g
 
 loop-holds : tie.Need-loop-holds Inv-loop μ-loop
-loop-holds c = let a = c .before .args in (omega arith, filled-none (wanted (a .gates .now) (a .many)) 0 _, filled-none (constantsOf (a .extra) (a .gates .now)) 0 _)
+loop-holds c = let a = c .before .args in (omega arith, filled-none (λ (k : ℕ). 1 - wanted (a .gates .now) (a .many) k) 0 _, filled-none (constantsOf (a .extra) (a .gates .now)) 0 _)
 
 wanted-of-requires : tie.Need-wanted-of-requires Inv-loop μ-loop
 wanted-of-requires c κs = omega arith
 
-mul-selected : tie.Need-mul-selected Inv-loop μ-loop
-mul-selected c = omega arith
+sub-bare : tie.Need-sub-bare Inv-loop μ-loop
+sub-bare c =
+    let a = c .before .before .before .before .args in
+    omega (arith, c .wanted-of .ensures, wanted-few (a .gates .now) (a .many) (c .before .before .loop .g))
 
-element-write-selected : tie.Need-element-write-selected Inv-loop μ-loop
-element-write-selected c = omega arith
+mul-bare : tie.Need-mul-bare Inv-loop μ-loop
+mul-bare c = omega arith
+
+element-write-bare : tie.Need-element-write-bare Inv-loop μ-loop
+element-write-bare c = omega arith
 
 constants-of-requires : tie.Need-constants-of-requires Inv-loop μ-loop
 constants-of-requires c κs = omega arith
@@ -50,7 +56,7 @@ loop-again c =
     let l = c .before .before .before .loop in
     let h = c .before .before .loop-test .taken in (
       omega arith,
-      filled-next (wanted (a .gates .now) (a .many)) 0 (l .g) _ _ _ (l .inv .1) (omega arith) (omega arith) (c .before .wanted-of .ensures),
+      filled-next (λ (k : ℕ). 1 - wanted (a .gates .now) (a .many) k) 0 (l .g) _ _ _ (l .inv .1) (omega arith) (omega arith) (ap (λ (k : ℕ). 1 - k) (c .before .wanted-of .ensures)),
       filled-next (constantsOf (a .extra) (a .gates .now)) 0 (l .g) _ _ _ (l .inv .2) (omega arith) (omega arith) (c .constants-of .ensures),
     )
 
@@ -69,8 +75,9 @@ list-gates-spec =
     μ-loop
     loop-holds
     wanted-of-requires
-    mul-selected
-    element-write-selected
+    sub-bare
+    mul-bare
+    element-write-bare
     constants-of-requires
     mul-own
     element-write-own

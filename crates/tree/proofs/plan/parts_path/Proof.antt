@@ -1,9 +1,8 @@
--- `plan::parts_path` meets its contract: a plan without a fault has a tree at node 0, in which the walk finds the gate's path.
+-- `plan::parts_path` meets its contract: a plan without a fault has a tree at node 0, by which its nodes answer of the gate.
 -- Assumes nothing.
 use borrow.Author.Needs.{needs}
 use mathlib.Core.Path.{_∙_, _≡_, sym}
-use native.Mathlib.Omega.{arith}
-use Rattle.tree.proofs.PlanCodeLaws.{path-made-up, path-unlisted, placed-path}
+use Rattle.tree.proofs.PlanCodeLaws.{path-answered, path-made-up}
 use Rattle.tree.specs.Plan.{planFault, planIn}
 use Rattle.tree.specs.PlanLaws.{fault-none}
 use Rattle.tree.specs.declared.plan.Plan.{Plan}
@@ -26,27 +25,19 @@ returns c =
 fine : (c : tie.Else1) → planFault (plan (c .before .before .before .before)) ≡ 0
 fine c = sym (c .before .parts-fault .ensures) ∙ c .if1 .left
 
+selection-in-requires : tie.Need-selection-in-requires
+selection-in-requires c κs =
+    let w = fault-none (plan (c .before .before .before .before)) (fine c) in
+    (w .nodes .linked, (w .nodes .some-nodes, w .nodes .few, w .node-words))
+
+number-requires : tie.Need-number-requires
+number-requires c κs = search needs
+
 returns-2 : tie.Need-returns-2
 returns-2 c =
     let s = c .before .before .before .before .before .before in
-    sym (path-unlisted (plan s) (s .args .gate) (fine (c .before .before)) (omega (arith, c .if2 .taken)))
-
-output-placement-requires : tie.Need-output-placement-requires
-output-placement-requires c κs =
-    let w = fault-none (plan (c .before .before .before .before .before .before)) (fine (c .before .before)) in
-    (w .nodes .linked, (w .nodes .some-nodes, w .nodes .few, omega arith, w .node-words))
-
-returns-3 : tie.Need-returns-3
-returns-3 c =
-    let s = c .before .before .before .before .before .before .before in
-    placed-path (plan s) (s .args .gate) (c .output-placement .result) (fine (c .before .before .before)) (c .before .if2 .left) (c .output-placement .ensures .0)
+    path-answered (plan s) (s .args .gate) _ _ (fine (c .before .before)) (c .before .selection-in .ensures) (c .number .ensures)
 
 pub parts-path-spec : {M : Type 1} → statement M
 parts-path-spec =
-    tie.close
-    (tie.spec
-    parts-fault-requires
-    returns
-    returns-2
-    output-placement-requires
-    returns-3)
+    tie.close (tie.spec parts-fault-requires returns selection-in-requires number-requires returns-2)

@@ -1,7 +1,7 @@
 -- `plan::parts_rows` meets its contract: a plan without a fault has a tree at node 0, of which the walk writes all paths over zeros, and its array holds the
 -- words of its gates.
 -- Assumes nothing.
-use Prim.Native.Nat.{ℕ}
+use Prim.Native.Nat.{_-_, ℕ}
 use borrow.Author.Needs.{needs}
 use borrow.Author.Tests.{eq-eqb, ne-eqb}
 use mathlib.Core.Path.{_∙_, _≡_, ap, refl, sym}
@@ -9,11 +9,11 @@ use native.Mathlib.Omega.{arith}
 use Rattle.selector.specs.Gates.{constantsOf}
 use Rattle.selector.specs.MadeUp.{wanted}
 use Rattle.selector.specs.Refusals.{extraOf}
-use Rattle.parameters.specs.Lookup.{flagOf}
-use Rattle.tree.proofs.PlanCodeLaws.{listed-filled, own-given, paths-placed, placed-given}
+use Rattle.tree.proofs.PlanCodeLaws.{bare-given, listed-filled, own-given, paths-placed}
 use Rattle.tree.specs.Placements.{pathWords}
-use Rattle.tree.specs.Plan.{gateRowsAnswer, planExtra, planFault, planIn, planOwn, planPlaced}
+use Rattle.tree.specs.Plan.{gateRowsAnswer, planExtra, planFault, planIn, planOwn, planSelection}
 use Rattle.tree.specs.PlanLaws.{fault-none}
+use Rattle.tree.specs.Selection.{selectionBare}
 use Rattle.tree.specs.declared.plan.Plan.{Plan}
 use Rattle.tree.proofs.plan.parts_rows.Statement.{statement}
 use Rattle.tree.proofs.plan.parts_rows.Tie as tie
@@ -64,9 +64,9 @@ returns-2 c =
     let p = paths-placed s (pathWords (v .last .1 .1 .1 .1 .1 .1 .1 .0) (v .last .1 .1 .1 .1 .1 .1 .1 .1 .0)) f (v .ensures) in
     let l = c .list-gates in
     let x = c .before .before .before .extra-of .ensures ∙ ap extraOf (c .before .before .before .before .mode .ensures) in
-    let placed = listed-filled s (λ (g : ℕ). flagOf (planPlaced s g)) (wanted (s .gates) n) (l .last .1 .1 .1 .0) (placed-given s) (l .ensures .0) in
+    let bare = listed-filled s (λ (g : ℕ). selectionBare (planSelection s g)) (λ (g : ℕ). 1 - wanted (s .gates) n g) (l .last .1 .1 .1 .0) (bare-given s f) (l .ensures .0) in
     let own = listed-filled s (planOwn s) _ (l .last .1 .1 .1 .1 .0) (λ g h. ap (λ (k : ℕ). constantsOf k (s .gates) g) x ∙ own-given s (planExtra s) g h) (l .ensures .1) in
-    rw (eq-eqb (planFault s) 0 f, p .0, p .1, placed, own) refl
+    rw (eq-eqb (planFault s) 0 f, p .0, p .1, bare, own) refl
 
 pub parts-rows-spec : {M : Type 1} → statement M
 parts-rows-spec =

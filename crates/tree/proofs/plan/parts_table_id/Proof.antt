@@ -2,10 +2,11 @@
 -- Assumes nothing.
 use borrow.Author.Needs.{needs}
 use borrow.Author.Tests.{eq-eqb, ne-eqb}
+use lib.ListN.{length}
 use mathlib.Core.Path.{_∙_, _≡_, refl, sym}
 use Rattle.tree.proofs.PlanCodeLaws.{path-fine, path-refused}
 use Rattle.parameters.specs.Lookup.{modeOf}
-use Rattle.tree.specs.Plan.{planFault, planIn, tableIdAnswer}
+use Rattle.tree.specs.Plan.{planFault, planIn, planPath, tableIdAnswer}
 use Rattle.tree.specs.declared.plan.Plan.{Plan}
 use Rattle.tree.proofs.plan.parts_table_id.Statement.{statement}
 use Rattle.tree.proofs.plan.parts_table_id.Tie as tie
@@ -31,13 +32,17 @@ fine c = path-fine (plan (c .before .before .before .before .before)) (c .before
 mode-requires : tie.Need-mode-requires
 mode-requires c κs = search needs
 
+length-requires : tie.Need-length-requires
+length-requires c κs = search needs
+
 returns-2 : tie.Need-returns-2
 unfolding tableIdAnswer
 returns-2 c =
-    let s = plan (c .before .before .before .before .before .before .before) in
-    let f = fine (c .before .before) in
-    let p = c .before .before .before .before .parts-path in
-    rw (eq-eqb (planFault s) 0 f, eq-eqb (modeOf (s .lookup)) 2 (sym (c .before .mode .ensures) ∙ c .if2 .taken), ← path-refused s (p .result) (p .ensures) f .steps) refl
+    let s = plan (c .before .before .before .before .before .before .before .before) in
+    let f = fine (c .before .before .before) in
+    let p = c .before .before .before .before .before .parts-path in
+    let steps : c .length .result ≡ length (planPath s 0) = c .length .ensures ∙ path-refused s (p .result) (p .ensures) f .steps-are in
+    rw (eq-eqb (planFault s) 0 f, eq-eqb (modeOf (s .lookup)) 2 (sym (c .before .before .mode .ensures) ∙ c .before .if2 .taken), ← steps) refl
 
 returns-3 : tie.Need-returns-3
 unfolding tableIdAnswer
@@ -55,4 +60,4 @@ returns-4 c =
 
 pub parts-table-id-spec : {M : Type 1} → statement M
 parts-table-id-spec =
-    tie.close (tie.spec parts-path-requires returns mode-requires returns-2 returns-3 returns-4)
+    tie.close (tie.spec parts-path-requires returns mode-requires length-requires returns-2 returns-3 returns-4)
