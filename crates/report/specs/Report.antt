@@ -1,7 +1,7 @@
 -- 01, 'Listing': the whole output, byte by byte. "Whole output: D, K, F; gate and path digits; constant column and words; copy column and words; then table columns
 -- as `table`; then id indexes. Fields are parted by one space, path digits by nothing; an empty path or id list ends its line after the field before it."
 --
--- Main definitions: `reportLines`, `refusedLine`, `reportOf`.
+-- Main definitions: `selectorField`, `reportLines`, `refusedLine`, `reportOf`.
 use mathlib.Core.Bool.{Bool}
 use mathlib.Core.List.{List, [], _∷_, _++_}
 use Prim.Native.Nat.{ℕ, zero, suc, _+_, _*_}
@@ -10,7 +10,8 @@ use lib.ListN.{length, take, drop}
 use Rattle.base.specs.Pick.{pick, both}
 use Rattle.bytes.specs.Text.{field, fields}
 use Rattle.pieces.specs.Setting.{Setting, constantRoom, copyRoom, tableRoom}
-use Rattle.tree.specs.Plan.{planFault, planPath, tableIdAnswer}
+use Rattle.selector.specs.Paths.{Selector, noSelector, path, unknownGate}
+use Rattle.tree.specs.Plan.{planFault, planSelector, tableIdAnswer}
 use Rattle.tree.specs.declared.plan.Plan.{Plan}
 use Rattle.columns.specs.Intake.{settingOf}
 
@@ -25,6 +26,10 @@ planName = 112 ∷ 108 ∷ 97 ∷ 110 ∷ []
 -- path
 abbrev pub pathName : List ℕ
 pathName = 112 ∷ 97 ∷ 116 ∷ 104 ∷ []
+
+-- none
+abbrev pub noneName : List ℕ
+noneName = 110 ∷ 111 ∷ 110 ∷ 101 ∷ []
 
 -- constant
 abbrev pub constantName : List ℕ
@@ -68,14 +73,20 @@ abbrev pub stepsField : List ℕ → List ℕ
 stepsField [] = []
 stepsField (d ∷ ds) = 32 ∷ digitsOf (d ∷ ds)
 
+-- 02, Change 2: "the listing prints `path 1 none`"; only listed gates have a line
+abbrev pub selectorField : Selector → List ℕ
+selectorField (path p) = stepsField p
+selectorField noSelector = 32 ∷ noneName
+selectorField unknownGate = []
+
 -- "gate and path digits"
-abbrev pub pathLine : (ℕ → List ℕ) → ℕ → List ℕ
-pathLine path g = pathName ++ field g ++ stepsField (path g) ++ newline
+abbrev pub pathLine : (ℕ → Selector) → ℕ → List ℕ
+pathLine selector g = pathName ++ field g ++ selectorField (selector g) ++ newline
 
 -- the lines of the gates g, g + 1, ..
-unfoldable pub pathLines : (ℕ → List ℕ) → ℕ → ℕ → List ℕ
-pathLines path g zero = []
-pathLines path g (suc many) = pathLine path g ++ pathLines path (suc g) many
+unfoldable pub pathLines : (ℕ → Selector) → ℕ → ℕ → List ℕ
+pathLines selector g zero = []
+pathLines selector g (suc many) = pathLine selector g ++ pathLines selector (suc g) many
 
 -- "Column c of a buffer is its words cN to cN+N−1."
 abbrev pub column : ℕ → List ℕ → ℕ → List ℕ
@@ -102,7 +113,7 @@ idsLine q = idsName ++ pick (ltb 0 (tableIdAnswer q .count)) (field (tableIdAnsw
 unfoldable pub reportLines : Plan → List ℕ → List ℕ → List ℕ → List ℕ
 reportLines q constants copies tables =
     planLine q
-    ++ pathLines (planPath q) 0 (q .«gate_count»)
+    ++ pathLines (planSelector q) 0 (q .«gate_count»)
     ++ columnLines constantName (q .trace) constants 0 (q .constants + q .specialised)
     ++ columnLines copyName (q .trace) copies 0 (q .copy)
     ++ columnLines tableName (q .trace) tables 0 (tableColumns (settingOf q))

@@ -14,6 +14,7 @@ use lib.Dec.{leb, eqb}
 use borrow.Author.Tests.{le-leb, lt-leb, leb-true, eq-eqb, ne-eqb}
 use Rattle.base.specs.Pick.{pick, pick-yes, pick-no, both-true}
 use Rattle.pieces.specs.Setting.{Setting, constantRoom, copyRoom, tableRoom}
+use Rattle.selector.specs.Paths.{Selector}
 use Rattle.tree.specs.Plan.{planFault}
 use Rattle.tree.specs.declared.plan.Plan.{Plan}
 use Rattle.columns.specs.Intake.{settingOf}
@@ -34,16 +35,16 @@ digits-done s path i h =
     rw e
 
 -- of m lines those from g on are left
-pub paths-turn : (s t : Sink) (path : ℕ → List ℕ) (g m : ℕ) → g < m → t ≡ put s (pathLine path g) → put s (pathLines path g (m - g)) ≡ put t (pathLines path (g + 1) (m - (g + 1)))
+pub paths-turn : (s t : Sink) (selector : ℕ → Selector) (g m : ℕ) → g < m → t ≡ put s (pathLine selector g) → put s (pathLines selector g (m - g)) ≡ put t (pathLines selector (g + 1) (m - (g + 1)))
 unfolding pathLines
-paths-turn s t path g m h e =
+paths-turn s t selector g m h e =
     let n : m - g ≡ suc (m - (g + 1)) = omega arith in
     let k : suc g ≡ g + 1 = omega arith in
-    rw n (put-append s (pathLine path g) (pathLines path (suc g) (m - (g + 1))) ∙ ap (λ (u : Sink). put u (pathLines path (suc g) (m - (g + 1)))) (sym e) ∙ ap (λ (j : ℕ). put t (pathLines path j (m - (g + 1)))) k)
+    rw n (put-append s (pathLine selector g) (pathLines selector (suc g) (m - (g + 1))) ∙ ap (λ (u : Sink). put u (pathLines selector (suc g) (m - (g + 1)))) (sym e) ∙ ap (λ (j : ℕ). put t (pathLines selector j (m - (g + 1)))) k)
 
-pub paths-done : (s : Sink) (path : ℕ → List ℕ) (g m : ℕ) → m ≤ g → put s (pathLines path g (m - g)) ≡ s
+pub paths-done : (s : Sink) (selector : ℕ → Selector) (g m : ℕ) → m ≤ g → put s (pathLines selector g (m - g)) ≡ s
 unfolding pathLines put
-paths-done s path g m h =
+paths-done s selector g m h =
     let n : m - g ≡ 0 = omega arith in
     rw n
 

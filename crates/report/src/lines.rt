@@ -6,12 +6,14 @@ ghost use Prim.Native.Nat.{ℕ, _*_, _<_, _≤_};
 ghost use lib.ListN.{length};
 ghost use Rattle.bytes.specs.Text.{sink, put, field, fields};
 ghost use Rattle.base.specs.Digits.{Spelled};
-ghost use Rattle.tree.specs.Plan.{planFault, planPath};
-ghost use Rattle.report.specs.Report.{newline, planLine, digit, digitsOf, stepsField, pathLine, pathLines, columnLines, idsLine};
+ghost use Rattle.tree.specs.Plan.{planFault, planSelector};
+ghost use Rattle.tree.specs.Selection.{selectorOf};
+ghost use Rattle.report.specs.Report.{newline, planLine, digit, digitsOf, stepsField, selectorField, pathLine, pathLines, columnLines, idsLine};
 use bytes::text::put_bytes;
 use bytes::text::put_field;
 use bytes::text::put_fields;
 use tree::plan::Plan;
+use tree::selection::Selection;
 
 // D, K and F.
 pub(crate) fn put_plan(plan: Plan, at: usize, out: &mut [u8]) -> usize
@@ -59,22 +61,34 @@ fn put_steps(bits: u64, steps: u64, at: usize, out: &mut [u8]) -> usize
     put_digits(bits, steps, a, out)
 }
 
+// The field of what is answered of a gate: its path, or that it has no selector.
+fn put_selection(selection: Selection, at: usize, out: &mut [u8]) -> usize
+    ensures { λ r. ⌜ sink (now (out .exit)) r ≡ put (sink (now (out .entry)) at) (selectorField (selectorOf selection)) ⌝ }
+{
+    match selection {
+        Selection::Path { bits, length } => put_steps(bits, length, at, out),
+        Selection::NoSelector => put_bytes(b" none", at, out),
+        Selection::UnknownGate => at,
+    }
+}
+
 // A gate and its path.
 fn put_path(plan: Plan, gate: u64, at: usize, out: &mut [u8]) -> usize
     requires { ⌜ (planFault plan ≡ 0) × (gate < plan .«gate_count») ⌝ }
-    ensures { λ r. ⌜ sink (now (out .exit)) r ≡ put (sink (now (out .entry)) at) (pathLine (planPath plan) gate) ⌝ }
+    ensures { λ r. ⌜ sink (now (out .exit)) r ≡ put (sink (now (out .entry)) at) (pathLine (planSelector plan) gate) ⌝ }
 {
     let path = plan.path(gate);
     let a = put_bytes(b"path", at, out);
     let b = put_field(gate, a, out);
-    let c = put_steps(path.bits, path.length, b, out);
+    let selection = path.selection;
+    let c = put_selection(selection, b, out);
     put_bytes(b"\n", c, out)
 }
 
 // All listed gates, in list order.
 pub(crate) fn put_paths(plan: Plan, at: usize, out: &mut [u8]) -> usize
     requires { ⌜ planFault plan ≡ 0 ⌝ }
-    ensures { λ r. ⌜ sink (now (out .exit)) r ≡ put (sink (now (out .entry)) at) (pathLines (planPath plan) 0 (plan .«gate_count»)) ⌝ }
+    ensures { λ r. ⌜ sink (now (out .exit)) r ≡ put (sink (now (out .entry)) at) (pathLines (planSelector plan) 0 (plan .«gate_count»)) ⌝ }
 {
     let mut place = at;
     let mut gate: u64 = 0;

@@ -1,6 +1,6 @@
 -- What a plan that passes 19 gives the layers above: the ranges of its numbers, its paths, its gates' constants, and what it answers of them.
 --
--- Main definitions: `Sound`, `GateWords`. Main statements: `sound`, `selector-known`, `only-placed`, `path-kept`, `selection-read`, `gate-words`, `placed-parted`, `dropped-bare`.
+-- Main definitions: `Sound`, `GateWords`. Main statements: `sound`, `selector-known`, `only-placed`, `path-kept`, `path-answers`, `gate-words`, `placed-parted`, `dropped-bare`.
 use Prim.Native.Nat.{_*_, _+_, _<_, _≤_, ℕ}
 use borrow.Author.Tests.{eq-eqb, le-ltb, lt-ltb, ltb-false, ltb-true}
 use lib.Dec.{ltb}
@@ -34,7 +34,7 @@ use Rattle.selector.specs.Tree.{Tree, standing}
 use Rattle.parameters.specs.Lookup.{modeOf, widthOf}
 use Rattle.parameters.specs.Parameters.{flagNumber, parametersNumber, rangeNumber}
 use Rattle.parameters.specs.ParametersLaws.{InRange, in-range}
-use Rattle.tree.specs.Plan.{forListed, gateRowsAnswer, gateRowsOf, gatesGiven, parametersOf, planExtra, planFault, planOwn, planPath, planPlaced, planSelection, planSelector}
+use Rattle.tree.specs.Plan.{forListed, gateRowsAnswer, gateRowsOf, gatesGiven, parametersOf, pathAnswer, planExtra, planFault, planOwn, planPath, planPlaced, planSelection, planSelector}
 use Rattle.tree.specs.PlanLaws.{Faultless, fault-none}
 use Rattle.tree.specs.Selection.{selection-steps, selectionBare, selectionBits, selectionLength, selectionOf, selectorOf}
 use Rattle.tree.specs.declared.gate_rows.GateRows.{GateRows}
@@ -134,14 +134,15 @@ module _ (q : Plan) (e : planFault q ≡ 0) where
       let w = selection-steps (planSelector q g) in
       rw (w .0, w .1) (record { digits-are = bits-digits (planPath q g) (sound .digits g); steps-are = refl })
 
-  -- and nothing is lost in words
-  pub selection-read : (g : ℕ) → selectorOf (planSelection q g) ≡ planSelector q g
-  selection-read g = by (planSelector q g) (sound .digits g)
+  -- and nothing is lost in words: what is answered of a gate reads as it was meant
+  pub path-answers : (g : ℕ) → selectorOf (pathAnswer q g .selection) ≡ planSelector q g
+  unfolding pathAnswer
+  path-answers g = rw (eq-eqb (planFault q) 0 e) (by (planSelector q g) (sound .digits g))
     where
       by : (s : Selector) → Each (λ (d : ℕ). d < 2) (steps s) → selectorOf (selectionOf s) ≡ s
-      by (path p) e = ap path (bits-digits p e)
-      by noSelector e = refl
-      by unknownGate e = refl
+      by (path p) each = ap path (bits-digits p each)
+      by noSelector each = refl
+      by unknownGate each = refl
 
   -- a placed gate has a path in the tree
   placed-path : (g : ℕ) → g < many → planPlaced q g ≡ true → (p : List ℕ) × (pathTo g (nodes .tree) ≡ some p) × (planPath q g ≡ p)

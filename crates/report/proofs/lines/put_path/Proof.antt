@@ -1,17 +1,14 @@
--- `report::lines::put_path` meets its contract: the bits and the length that the plan answers spell the path.
+-- `report::lines::put_path` meets its contract: what the plan answers of the gate reads as the definition has it.
 -- Assumes nothing.
-use mathlib.Core.Path.{subst, sym}
-use mathlib.Core.List.{List, [], _∷_, _++_}
-use native.Mathlib.Omega.{arith}
-use Rattle.bytes.specs.Text.{Sink, sink, put, field, fields}
+use mathlib.Core.Path.{_∙_, _≡_, ap, refl}
+use mathlib.Core.List.{_++_}
+use Rattle.bytes.specs.Text.{field, sink}
 use Rattle.bytes.specs.TextLaws.{then}
-use Prim.Native.Nat.{ℕ, suc, _+_, _-_, _*_, _/_, _%_, _<_, _≤_}
-use lib.ListN.{length, getD, take, drop}
-use Rattle.base.specs.Digits.{Spelled}
+use Rattle.tree.specs.Plan.{planSelector}
+use Rattle.tree.specs.Selection.{selectorOf}
 use Rattle.tree.specs.SoundLaws.{path-answers}
-use Rattle.tree.specs.Plan.{planPath}
-use Rattle.tree.specs.declared.plan.Path.{Path}
-use Rattle.report.specs.Report.{newline, pathName, stepsField}
+use Rattle.tree.specs.declared.plan.PathAnswer.{PathAnswer}
+use Rattle.report.specs.Report.{newline, pathName, selectorField}
 use borrow.Author.Needs.{needs}
 use Rattle.report.proofs.lines.put_path.Statement.{statement}
 use Rattle.report.proofs.lines.put_path.Tie as tie
@@ -19,7 +16,7 @@ use Rattle.report.proofs.lines.put_path.Reads as reads
 use Rattle.report.proofs.lines.put_path.Lts as lts
 use Rattle.bytes.proofs.text.put_bytes.Reads as put-bytes-reads
 use Rattle.bytes.proofs.text.put_field.Reads as put-field-reads
-use Rattle.report.proofs.lines.put_steps.Reads as put-steps-reads
+use Rattle.report.proofs.lines.put_steps.Reads as put-selection-reads
 use Rattle.tree.proofs.plan.Plan.path.Reads as path-reads
 
 path-requires : tie.Need-path-requires
@@ -34,8 +31,8 @@ put-bytes-requires c κs = search needs
 put-field-requires : tie.Need-put-field-requires
 put-field-requires c κs = search needs
 
-put-steps-requires : tie.Need-put-steps-requires
-put-steps-requires c κs = search needs
+put-selection-requires : tie.Need-put-selection-requires
+put-selection-requires c κs = search needs
 
 slice-aggregate-put-bytes-2 : tie.Need-slice-aggregate-put-bytes-2
 slice-aggregate-put-bytes-2 c = search needs
@@ -48,15 +45,17 @@ same-length c = search needs
 
 returns : tie.Need-returns
 returns c =
-    let a = c .before .before .before .before .before .before .before .before .before .before .before .before .before .before .before .before .before .before .before .before .args in
-    let p = c .before .before .before .before .before .before .before .before .before .before .before .before .before .before .before .before .before .before .before .before .pre in
-    let s = subst (λ (r : Path). Spelled (planPath (a .plan) (a .gate)) (r .bits) (r .length)) (sym (c .before .before .before .before .before .before .before .before .before .before .before .before .before .before .before .before .before .before .path .ensures)) (path-answers (a .plan) (p .0) (a .gate) (p .1)) in
-    then (sink (a .out .now) (a .at)) _ _ (pathName ++ field (a .gate) ++ stepsField (planPath (a .plan) (a .gate))) (newline)
-    (then (sink (a .out .now) (a .at)) _ _ (pathName ++ field (a .gate)) (stepsField (planPath (a .plan) (a .gate)))
-    (then (sink (a .out .now) (a .at)) _ _ (pathName) (field (a .gate))
+    let s = c .before .before .before .before .before .before .before .before .before .before .before .before .before .before .before .before .before .before .before .before in
+    let a = s .args in
+    let answer = c .before .before .before .before .before .before .before .before .before .before .before .before .before .before .before .before .before .before .path in
+    let is : selectorOf (answer .result .selection) ≡ planSelector (a .plan) (a .gate) =
+    ap (λ (r : PathAnswer). selectorOf (r .selection)) (answer .ensures) ∙ path-answers (a .plan) (s .pre .0) (a .gate) in
+    then (sink (a .out .now) (a .at)) _ _ (pathName ++ field (a .gate) ++ selectorField (planSelector (a .plan) (a .gate))) newline
+    (then (sink (a .out .now) (a .at)) _ _ (pathName ++ field (a .gate)) (selectorField (planSelector (a .plan) (a .gate)))
+    (then (sink (a .out .now) (a .at)) _ _ pathName (field (a .gate))
     (c .before .before .before .before .before .before .before .before .before .before .before .before .before .before .before .put-bytes .ensures)
     (c .before .before .before .before .before .before .before .before .before .before .before .put-field .ensures))
-    (c .before .before .before .before .before .before .before .put-steps .ensures (planPath (a .plan) (a .gate)) s))
+    (c .before .before .before .before .before .before .before .put-selection .ensures ∙ rw is refl))
     (c .before .before .put-bytes2 .ensures)
 
 pub put-path-spec : {M : Type 1} → statement M
@@ -67,7 +66,7 @@ put-path-spec =
     slice-aggregate-put-bytes
     put-bytes-requires
     put-field-requires
-    put-steps-requires
+    put-selection-requires
     slice-aggregate-put-bytes-2
     put-bytes-requires-2
     same-length

@@ -8,7 +8,7 @@ use Rattle.bytes.specs.Text.{Sink, sink, put, field, fields}
 use Rattle.bytes.specs.TextLaws.{then}
 use Prim.Native.Nat.{ℕ, suc, _+_, _-_, _*_, _/_, _%_, _<_, _≤_}
 use lib.ListN.{length, getD, take, drop}
-use Rattle.tree.specs.Plan.{planPath}
+use Rattle.tree.specs.Plan.{planSelector}
 use Rattle.report.specs.Report.{pathLines}
 use Rattle.report.specs.ReportLaws.{paths-turn, paths-done}
 use Rattle.report.proofs.lines.put_paths.Statement.{statement}
@@ -18,7 +18,7 @@ use Rattle.report.proofs.lines.put_paths.Lts as lts
 use Rattle.report.proofs.lines.put_path.Reads as put-path-reads
 
 abbrev Inv-loop : tie.InvT-loop
-Inv-loop plan at out₀ place₀ gate₀ out place gate = (length out ≡ length out₀) × (put (sink out₀ at) (pathLines (planPath plan) 0 (plan .«gate_count»)) ≡ put (sink out place) (pathLines (planPath plan) gate (plan .«gate_count» - gate)))
+Inv-loop plan at out₀ place₀ gate₀ out place gate = (length out ≡ length out₀) × (put (sink out₀ at) (pathLines (planSelector plan) 0 (plan .«gate_count»)) ≡ put (sink out place) (pathLines (planSelector plan) gate (plan .«gate_count» - gate)))
 
 abbrev μ-loop : tie.MeasureT-loop
 μ-loop plan at out₀ place₀ gate₀ out place gate = plan .«gate_count» - gate
@@ -27,7 +27,7 @@ loop-holds : tie.Need-loop-holds Inv-loop μ-loop
 loop-holds c =
     let a = c .before .args in
     let e : a .plan .«gate_count» ≡ a .plan .«gate_count» - 0 = omega arith in
-    (refl, ap (λ (k : ℕ). put (sink (a .out .now) (a .at)) (pathLines (planPath (a .plan)) 0 k)) e)
+    (refl, ap (λ (k : ℕ). put (sink (a .out .now) (a .at)) (pathLines (planSelector (a .plan)) 0 k)) e)
 
 put-path-requires : tie.Need-put-path-requires Inv-loop μ-loop
 put-path-requires c κs = (c .before .before .before .before .before .pre, omega arith)
@@ -43,13 +43,13 @@ loop-again c =
     let l = c .before .before .before .before .before .before .loop in
     let w = c .before .before .put-path in
     let a = c .before .before .before .before .before .before .before .before .args in
-    (w .kept .1 .1 .1 .0 ∙ l .inv .0, l .inv .1 ∙ paths-turn (sink (l .out) (l .place)) _ (planPath (a .plan)) (l .gate) (a .plan .«gate_count») (omega arith) (w .ensures))
+    (w .kept .1 .1 .1 .0 ∙ l .inv .0, l .inv .1 ∙ paths-turn (sink (l .out) (l .place)) _ (planSelector (a .plan)) (l .gate) (a .plan .«gate_count») (omega arith) (w .ensures))
 
 same-length : tie.Need-same-length Inv-loop μ-loop
 same-length c = c .before .before .loop .inv .0
 
 returns : tie.Need-returns Inv-loop μ-loop
-returns c = let l = c .before .before .loop in sym (l .inv .1 ∙ paths-done (sink (l .out) (l .place)) (planPath (c .before .before .before .before .args .plan)) (l .gate) (c .before .before .before .before .args .plan .«gate_count») (omega arith))
+returns c = let l = c .before .before .loop in sym (l .inv .1 ∙ paths-done (sink (l .out) (l .place)) (planSelector (c .before .before .before .before .args .plan)) (l .gate) (c .before .before .before .before .args .plan .«gate_count») (omega arith))
 
 pub put-paths-spec : {M : Type 1} → statement M
 put-paths-spec =

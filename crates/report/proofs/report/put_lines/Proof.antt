@@ -10,7 +10,7 @@ use lib.ListN.{length}
 use Rattle.pieces.specs.Setting.{constantRoom, copyRoom, tableRoom}
 use Rattle.columns.specs.Intake.{settingOf}
 use Rattle.tree.specs.SoundLaws.{Sound, sound}
-use Rattle.tree.specs.Plan.{planPath}
+use Rattle.tree.specs.Plan.{planSelector}
 use Rattle.report.specs.Report.{planLine, pathLines, columnLines, constantName, copyName, tableName, tableColumns, idsLine, reportLines}
 use Rattle.report.specs.ReportLaws.{all-there, table-room, few-tables}
 use borrow.Author.Needs.{needs}
@@ -78,18 +78,18 @@ returns c =
     let a = c .before .before .before .before .before .before .before .before .before .before .before .before .before .before .before .before .before .before .before .before .before .before .before .before .before .before .before .before .before .before .before .before .before .args in
     let q = a .plan in
     let t = c .before .before .before .before .before .before .before .before .table-columns .result in
-    then (sink (a .out .now) 0) _ _ (planLine q ++ pathLines (planPath q) 0 (q .«gate_count») ++ columnLines constantName (q .trace) (a .constants .now) 0 (q .constants + q .specialised) ++ columnLines copyName (q .trace) (a .copies .now) 0 (q .copy) ++ columnLines tableName (q .trace) (a .tables .now) 0 t) (idsLine q)
-    (then (sink (a .out .now) 0) _ _ (planLine q ++ pathLines (planPath q) 0 (q .«gate_count») ++ columnLines constantName (q .trace) (a .constants .now) 0 (q .constants + q .specialised) ++ columnLines copyName (q .trace) (a .copies .now) 0 (q .copy)) (columnLines tableName (q .trace) (a .tables .now) 0 t)
-    (then (sink (a .out .now) 0) _ _ (planLine q ++ pathLines (planPath q) 0 (q .«gate_count») ++ columnLines constantName (q .trace) (a .constants .now) 0 (q .constants + q .specialised)) (columnLines copyName (q .trace) (a .copies .now) 0 (q .copy))
-    (then (sink (a .out .now) 0) _ _ (planLine q ++ pathLines (planPath q) 0 (q .«gate_count»)) (columnLines constantName (q .trace) (a .constants .now) 0 (q .constants + q .specialised))
-    (then (sink (a .out .now) 0) _ _ (planLine q) (pathLines (planPath q) 0 (q .«gate_count»))
+    then (sink (a .out .now) 0) _ _ (planLine q ++ pathLines (planSelector q) 0 (q .«gate_count») ++ columnLines constantName (q .trace) (a .constants .now) 0 (q .constants + q .specialised) ++ columnLines copyName (q .trace) (a .copies .now) 0 (q .copy) ++ columnLines tableName (q .trace) (a .tables .now) 0 t) (idsLine q)
+    (then (sink (a .out .now) 0) _ _ (planLine q ++ pathLines (planSelector q) 0 (q .«gate_count») ++ columnLines constantName (q .trace) (a .constants .now) 0 (q .constants + q .specialised) ++ columnLines copyName (q .trace) (a .copies .now) 0 (q .copy)) (columnLines tableName (q .trace) (a .tables .now) 0 t)
+    (then (sink (a .out .now) 0) _ _ (planLine q ++ pathLines (planSelector q) 0 (q .«gate_count») ++ columnLines constantName (q .trace) (a .constants .now) 0 (q .constants + q .specialised)) (columnLines copyName (q .trace) (a .copies .now) 0 (q .copy))
+    (then (sink (a .out .now) 0) _ _ (planLine q ++ pathLines (planSelector q) 0 (q .«gate_count»)) (columnLines constantName (q .trace) (a .constants .now) 0 (q .constants + q .specialised))
+    (then (sink (a .out .now) 0) _ _ (planLine q) (pathLines (planSelector q) 0 (q .«gate_count»))
     (c .before .before .before .before .before .before .before .before .before .before .before .before .before .before .before .before .before .before .before .before .before .before .before .before .before .before .put-plan .ensures)
     (c .before .before .before .before .before .before .before .before .before .before .before .before .before .before .before .before .before .before .before .before .before .before .put-paths .ensures))
     (c .before .before .before .before .before .before .before .before .before .before .before .before .before .before .before .before .before .put-columns .ensures))
     (c .before .before .before .before .before .before .before .before .before .before .before .before .put-columns2 .ensures))
     (c .before .before .before .before .before .before .put-columns3 .ensures))
     (c .before .before .put-ids .ensures)
-    ∙ ap (λ (k : ℕ). put (sink (a .out .now) 0) (planLine q ++ pathLines (planPath q) 0 (q .«gate_count») ++ columnLines constantName (q .trace) (a .constants .now) 0 (q .constants + q .specialised) ++ columnLines copyName (q .trace) (a .copies .now) 0 (q .copy) ++ columnLines tableName (q .trace) (a .tables .now) 0 k ++ idsLine q)) (c .before .before .before .before .before .before .before .before .table-columns .ensures)
+    ∙ ap (λ (k : ℕ). put (sink (a .out .now) 0) (planLine q ++ pathLines (planSelector q) 0 (q .«gate_count») ++ columnLines constantName (q .trace) (a .constants .now) 0 (q .constants + q .specialised) ++ columnLines copyName (q .trace) (a .copies .now) 0 (q .copy) ++ columnLines tableName (q .trace) (a .tables .now) 0 k ++ idsLine q)) (c .before .before .before .before .before .before .before .before .table-columns .ensures)
 
 pub put-lines-spec : {M : Type 1} → statement M
 put-lines-spec =
