@@ -172,9 +172,12 @@ pub fn path(plan: &Plan, gate: u64) -> Result<PathAnswer, u64> {
 /// "Table-id column: mode 2 the lookup path's length, mode 4 K, else none."
 pub fn table_id(plan: &Plan) -> Result<Option<u64>, u64> {
     let (gates, tree) = decoded(plan)?;
-    Ok(match (plan.parameter().mode, path_in(&gates, &tree, 0)) {
-        (2, PathAnswer::Path(steps)) => Some(steps.len() as u64),
-        (4, _) => Some(plan.k),
+    Ok(match plan.parameter().mode {
+        2 => match path_in(&gates, &tree, 0) {
+            PathAnswer::Path(steps) => Some(steps.len() as u64),
+            PathAnswer::NoSelector | PathAnswer::UnknownGate => None,
+        },
+        4 => Some(plan.k),
         _ => None,
     })
 }
