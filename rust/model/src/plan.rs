@@ -160,7 +160,7 @@ pub fn path_in(gates: &[Gate], tree: &Tree, gate: u64) -> PathAnswer {
     PathAnswer::Path(leaves.find(|(leaf, _)| leaf.index as u64 == gate).unwrap().1)
 }
 
-/// The answer to a caller: "unknown gate, still 12; 19 is tested before".
+/// The answer to a caller: "unknown gate, still 12; 19 is tested before them as today".
 pub fn path(plan: &Plan, gate: u64) -> Result<PathAnswer, u64> {
     let (gates, tree) = decoded(plan)?;
     match path_in(&gates, &tree, gate) {
