@@ -82,8 +82,12 @@ static void print_columns(const char *name, struct buffer columns)
 
 static void print_path(struct buffer plan, uint64_t gate)
 {
-    uint64_t path[2];
+    uint64_t path[3]; /* bits, length, and 1 where the gate has no selector */
     accepted("path", kinchoyu_path(plan.words, plan.length, gate, path, WORDS(path)));
+    if (path[2] == 1) {
+        printf("path %" PRIu64 " none\n", gate);
+        return;
+    }
     printf("path %" PRIu64 "%s", gate, path[1] > 0 ? " " : "");
     for (uint64_t i = 0; i < path[1]; i++) {
         printf("%d", (int)(path[0] >> i & 1));

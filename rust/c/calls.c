@@ -1,6 +1,6 @@
 /* What the header promises beside the proofs: its macros are what the functions answer; NULL may be
- * passed with length 0 wherever a pointer is; padding writes what it says and nothing else; every call
- * runs in a thread with the stack that the header names.
+ * passed with length 0 wherever a pointer is; paths and padding write what it says and nothing else;
+ * every call runs in a thread with the stack that the header names.
  *
  *   calls [BYTES]     the thread's stack; KINCHOYU_STACK_BYTES if not given
  */
@@ -76,6 +76,8 @@ static void null_where_the_length_is_0(void)
     ANSWERS(3, kinchoyu_plan(parameters, 8, NULL, 0, PLAN));
     ANSWERS(0, kinchoyu_plan(parameters, 8, gates, 3, PLAN));
     ANSWERS(10, kinchoyu_path(PLAN, 0, NULL, 0));
+    ANSWERS(10, kinchoyu_path(PLAN, 0, out, 2));
+    ANSWERS(0, kinchoyu_path(PLAN, 0, out, 3));
     ANSWERS(10, kinchoyu_table_id(PLAN, NULL, 0));
     ANSWERS(10, kinchoyu_stats(PLAN, NULL, 0));
     ANSWERS(10, kinchoyu_open(PLAN, NULL, 0, NULL, 0, copies, 1, NULL, 0, NULL, 0));
@@ -109,6 +111,59 @@ static void junk(const uint64_t *words, size_t from, size_t length, int line)
     for (size_t i = from; i < length; i++) {
         answers(JUNK, words[i], line);
     }
+}
+
+/* A path's number and three words, in results of every length: nothing is written where it is less
+ * than three, and nothing beyond. */
+static void path_is(uint64_t number, uint64_t gate, uint64_t bits, uint64_t length, uint64_t unselected,
+                    int line)
+{
+    const uint64_t wanted[] = {bits, length, unselected};
+    uint64_t path[5];
+    for (size_t room = 0; room <= WORDS(path); room++) {
+        const size_t written = room < 3 ? 0 : 3;
+        for (size_t i = 0; i < WORDS(path); i++) {
+            path[i] = JUNK;
+        }
+        answers(written == 0 ? 10 : number, kinchoyu_path(PLAN, gate, path, room), line);
+        for (size_t i = 0; i < written; i++) {
+            answers(wanted[i], path[i], line);
+        }
+        junk(path, written, WORDS(path), line);
+    }
+}
+#define PATH_IS(number, gate, bits, length, unselected) \
+    path_is(number, gate, bits, length, unselected, __LINE__)
+
+/* A path, an empty one, no selector, and a gate that is not listed. */
+static void paths(void)
+{
+    static const uint64_t parameters[] = {4, 1, 0, 0, 0, 0, 0, 0};
+    static const uint64_t middle[] = {0, 2, 0, 2, 0, 0, 1, 0, 0}, one_placed[] = {0, 64, 0, 2, 0, 0};
+    static const uint64_t lone[][3] = {{1, 0, 0}, {2, 0, 0}};
+    uint64_t path[] = {JUNK, JUNK, JUNK, JUNK};
+
+    ANSWERS(0, kinchoyu_plan(parameters, 8, middle, WORDS(middle), PLAN));
+    PATH_IS(0, 0, 1, 1, 0);
+    PATH_IS(0, 1, 0, 0, 1);
+    PATH_IS(0, 2, 0, 1, 0);
+    PATH_IS(12, 3, 0, 0, 0);
+    ANSWERS(0, kinchoyu_plan(parameters, 8, one_placed, WORDS(one_placed), PLAN));
+    PATH_IS(0, 0, 0, 0, 0);
+    PATH_IS(0, 1, 0, 0, 1);
+    for (size_t i = 0; i < WORDS(lone); i++) {
+        ANSWERS(0, kinchoyu_plan(parameters, 8, lone[i], 3, PLAN));
+        PATH_IS(0, 0, 0, 0, 0);
+        PATH_IS(12, 1, 0, 0, 0);
+    }
+    /* a plan that is none: 19 before 10, and zeros where there is room */
+    ANSWERS(19, kinchoyu_path(plan, 0, 0, path, 2));
+    junk(path, 0, WORDS(path), __LINE__);
+    ANSWERS(19, kinchoyu_path(plan, 0, 0, path, 4));
+    for (size_t i = 0; i < 3; i++) {
+        ANSWERS(0, path[i]);
+    }
+    junk(path, 3, WORDS(path), __LINE__);
 }
 
 /* The worked circuit with three rows of columns and one row: to four rows, and no word beyond. */
@@ -263,6 +318,7 @@ static void *in_a_thread(void *nothing)
 {
     header();
     null_where_the_length_is_0();
+    paths();
     padding();
     for (uint64_t step = 0; step < 8; step++) {
         for (uint64_t first = 0; first < 8; first++) {

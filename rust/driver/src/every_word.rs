@@ -48,7 +48,9 @@ fn plans(f: &mut Figures, sides: &Sides) -> Result<(), String> {
         let word = sides.library[PLAN][place];
         for value in values(place, word) {
             aside.set(PLAN, place, value);
-            for call in [Call::Stats, Call::TableId, Call::Path(0), Call::Path(4), Call::Open] {
+            // of a placed gate, of one without selector, and of one not listed
+            let paths = [0, 3, 5].map(Call::Path);
+            for call in [Call::Stats, Call::TableId, Call::Open].into_iter().chain(paths) {
                 aside.make(f, call).map_err(|what| format!("word {place} {value}: {what}"))?;
             }
         }

@@ -2,7 +2,7 @@
 use crate::encoding::*;
 use model::listing::Buffers;
 use model::plan::Plan;
-use model::State;
+use model::{PathAnswer, State};
 
 /// Words go to the front of a slice that has room for them.
 fn hand(words: &[u64], out: &mut [u64]) {
@@ -32,11 +32,23 @@ pub fn plan(parameters: &[u64], gates: &[u64], out: &mut [u64]) -> u64 {
     number
 }
 
+/// Bits, the first step lowest, length, and 1 for a gate without selector; zeros for one not listed.
+fn path_words(answer: &PathAnswer) -> [u64; 3] {
+    match answer {
+        PathAnswer::Path(steps) => {
+            let bits = steps.iter().rev().fold(0, |bits, left| 2 * bits + *left as u64);
+            [bits, steps.len() as u64, 0]
+        }
+        PathAnswer::NoSelector => [0, 0, 1],
+        PathAnswer::UnknownGate => [0; 3],
+    }
+}
+
 /// 19, 10, 12; a refused path is of zeros.
 pub fn path(plan: &[u64], gate: u64, out: &mut [u64]) -> u64 {
     let (number, words) = match model::path(&plan_of(plan), gate) {
-        Ok((bits, length)) => (0, [bits, length]),
-        Err(number) => (number, [0, 0]),
+        Ok(answer) => (0, path_words(&answer)),
+        Err(number) => (number, [0; 3]),
     };
     hand(&words, out);
     match number {

@@ -15,7 +15,7 @@ fn asked<'a>(sides: &'a mut Sides, figures: &mut Figures, call: Call) -> Result<
     Ok(&sides.library[OUT])
 }
 
-/// D, K, F, paths, nodes and table ids.
+/// D, K, F, paths and which gates have none, nodes and table ids.
 fn plan_differs(
     r: &mut Random,
     sides: &mut Sides,
@@ -35,9 +35,7 @@ fn plan_differs(
     let gates = o.paths.len() as u64;
     for i in 0..gates.min(PATHS) {
         let gate = if gates <= PATHS { i } else { r.within(0, gates - 1) };
-        let path = &o.paths[gate as usize];
-        let bits = path.iter().enumerate().map(|(i, left)| (*left as u64) << i).sum::<u64>();
-        if asked(sides, figures, Call::Path(gate))?[..2] != [bits, path.len() as u64] {
+        if asked(sides, figures, Call::Path(gate))?[..3] != o.path_words(gate as usize) {
             return Ok(Some(format!("path of gate {gate}")));
         }
     }

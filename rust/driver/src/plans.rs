@@ -1,10 +1,10 @@
 //! Planning of all short gate lists, and plans that no planning gives.
 use crate::circuit::Circuit;
-use crate::encoding::plan_words;
+use crate::encoding::{plan_words, NODE_COUNT};
 use crate::figures::Figures;
 use crate::random::Random;
 use crate::script::named;
-use crate::sides::{Call, Sides, PLAN};
+use crate::sides::{Call, Sides, OUT, PLAN};
 use crate::{lists, made_up};
 use model::Plan;
 
@@ -29,6 +29,36 @@ fn gate_lists(sides: &mut Sides, f: &mut Figures) -> Result<(), String> {
     };
     let _ = lists::short(LONGEST, &mut take) && lists::dropped(&mut take);
     done
+}
+
+/// Lists whose gates have a path, an empty one or no selector.
+const SELECTORS: [&[[u64; 3]]; 4] =
+    [&[[1, 0, 0]], &[[2, 0, 0]], &[[0, 64, 0], [2, 0, 0]], &[[0, 2, 0], [2, 0, 0], [1, 0, 0]]];
+
+/// Every gate's path and that of two not listed, in results of every length that were junk.
+fn results(sides: &mut Sides, f: &mut Figures, gates: u64) -> Result<(), String> {
+    for length in 0..=sides.library[OUT].len() {
+        for gate in (0..=gates).chain([u64::MAX]) {
+            (0..sides.library[OUT].len()).for_each(|place| sides.set(OUT, place, 77));
+            sides.lent[OUT] = length;
+            sides.make(f, Call::Path(gate))?;
+        }
+    }
+    Ok(())
+}
+
+/// As above of good plans, then of the same ones with another D.
+fn selectors(sides: &mut Sides, f: &mut Figures) -> Result<(), String> {
+    for gates in SELECTORS {
+        let (n, count) = (gates.len().next_power_of_two() as u64, gates.len() as u64);
+        sides.lent[OUT] = 3;
+        planned(sides, f, &Circuit::plain([n, 1, 0, 0, 0, 0, 0, 0], gates))?;
+        results(sides, f, count)?;
+        let d = sides.library[PLAN][NODE_COUNT + 1];
+        sides.set(PLAN, NODE_COUNT + 1, d + 1);
+        results(sides, f, count)?;
+    }
+    Ok(())
 }
 
 /// Every call that reads a plan.
@@ -56,5 +86,6 @@ fn shapes(r: &mut Random, f: &mut Figures) -> Result<(), String> {
 pub fn run(f: &mut Figures) -> Result<(), String> {
     let mut r = Random::new(2);
     gate_lists(&mut Sides::new(&mut r), f)?;
+    selectors(&mut Sides::new(&mut r), f)?;
     shapes(&mut r, f)
 }

@@ -75,7 +75,7 @@ pub use columns::{Columns, Lengths, Lent};
 pub use intake::{Cell, Intake};
 pub use listing::{listing_from_bytes, pad, run, run_in};
 pub use parameters::{Gate, Lookup, Parameters};
-pub use plan::{label, Path, Plan, Stats};
+pub use plan::{label, Path, Plan, Selection, Stats};
 pub use refusal::Refusal;
 
 /// p = 2^64 − 2^32 + 1; words of rows, S words and tables are below it.

@@ -47,6 +47,39 @@ impl fmt::Display for Path {
     }
 }
 
+/// What a plan answers of a listed gate: its path, or that it has no selector.
+///
+/// A [`Gate::Unselected`] has no selector unless it is the list's only gate. An empty path is
+/// something else: a list's only gate has one, whatever its kind, and so has the only one that is
+/// placed.
+#[derive(Clone, Copy, Debug, PartialEq, Eq)]
+pub enum Selection {
+    /// The gate is placed in the selector tree, at the end of this path.
+    Path(Path),
+    /// The gate is not placed: its rows hold no selector.
+    NoSelector,
+}
+
+impl Selection {
+    /// The path, if there is one.
+    pub fn path(self) -> Option<Path> {
+        match self {
+            Selection::Path(path) => Some(path),
+            Selection::NoSelector => None,
+        }
+    }
+}
+
+/// The path's digits, or `none`.
+impl fmt::Display for Selection {
+    fn fmt(&self, f: &mut fmt::Formatter<'_>) -> fmt::Result {
+        match self {
+            Selection::Path(path) => path.fmt(f),
+            Selection::NoSelector => f.write_str("none"),
+        }
+    }
+}
+
 impl Plan {
     /// Plans for these parameters and gates. Refusals 1 to 8.
     pub fn new(parameters: &Parameters, gates: &[Gate]) -> Result<Plan, Refusal> {
@@ -86,12 +119,35 @@ impl Plan {
         Stats { degree, constants, factor }
     }
 
-    /// The path of a gate, empty for one without selector. Refusal 12 for one not listed.
-    pub fn path(&self, gate: u64) -> Result<Path, Refusal> {
-        let mut out = [0; 2];
+    /// The path of a gate, or that it has no selector. Refusal 12 for one not listed.
+    ///
+    /// ```
+    /// use kinchoyu::{Gate, Lookup, Parameters, Plan, Refusal, Selection};
+    ///
+    /// # let parameters = Parameters {
+    /// #     trace: 4,
+    /// #     copy: 1,
+    /// #     allowed: 0,
+    /// #     specialised: 0,
+    /// #     variables: 0,
+    /// #     lookup: Lookup::None,
+    /// # };
+    /// let first = Gate::Evaluated { degree: 2, constants: 0 };
+    /// let plan = Plan::new(&parameters, &[first, Gate::Unselected, Gate::Marker])?;
+    /// assert_eq!(plan.path(0)?.to_string(), "1");
+    /// assert_eq!(plan.path(1)?, Selection::NoSelector);
+    /// assert_eq!(plan.path(2)?.path().map(|path| path.length), Some(1));
+    /// assert_eq!(plan.path(3), Err(Refusal::RowRecord));
+    /// # Ok::<(), Refusal>(())
+    /// ```
+    pub fn path(&self, gate: u64) -> Result<Selection, Refusal> {
+        let mut out = [0; 3];
         answer(raw::path(&self.words, gate, &mut out))?;
-        let [bits, length] = out;
-        Ok(Path { bits, length })
+        let [bits, length, unselected] = out;
+        Ok(match unselected {
+            0 => Selection::Path(Path { bits, length }),
+            _ => Selection::NoSelector,
+        })
     }
 
     /// Which constant column holds table ids, if one does.

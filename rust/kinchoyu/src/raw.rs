@@ -33,7 +33,8 @@ pub fn plan(parameters: &[u64], gates: &[u64], plan: &mut [u64]) -> u64 {
     }
 }
 
-/// Bits and length of a gate's path; bit i, from the least, is step i from the root.
+/// Bits and length of a gate's path, and 1 where the gate has no selector; bit i, from the least, is
+/// step i from the root.
 pub fn path(plan: &[u64], gate: u64, out: &mut [u64]) -> u64 {
     // SAFETY: pointers and lengths of references, as said above.
     unsafe { c::kinchoyu_path(plan.as_ptr(), plan.len(), gate, out.as_mut_ptr(), out.len()) }

@@ -95,7 +95,7 @@ fn what_is_asked_of_a_plan() {
     let stats = plan.stats();
     assert_eq!((stats.degree, stats.constants, stats.factor), (2, 1, 1));
     assert_eq!(plan.table_id(), Some(1));
-    assert_eq!(plan.path(1).unwrap().to_string(), "");
+    assert_eq!(plan.path(1), Ok(Selection::NoSelector));
     assert_eq!(plan.path(2), Err(Refusal::RowRecord));
     let gates = [(2, 1), (1, 0)].map(|(degree, constants)| Gate::Evaluated { degree, constants });
     let parameters = Parameters { lookup: Lookup::None, ..PARAMETERS };
@@ -103,6 +103,75 @@ fn what_is_asked_of_a_plan() {
     let paths = [0, 1, 2].map(|gate| plan.path(gate).unwrap().to_string());
     assert_eq!(paths, ["1", "01", "00"]);
     assert_eq!(plan.table_id(), None);
+}
+
+/// What a plan of these gates says of every gate, and of one more.
+fn selections(gates: &[Gate]) -> Vec<Result<Selection, Refusal>> {
+    let parameters = Parameters { lookup: Lookup::None, ..PARAMETERS };
+    let plan = Plan::new(&parameters, gates).unwrap();
+    (0..=gates.len() as u64).map(|gate| plan.path(gate)).collect()
+}
+
+/// The text of each, and that the last one is refused.
+fn shown(gates: &[Gate]) -> Vec<String> {
+    let mut all = selections(gates);
+    assert_eq!(all.pop(), Some(Err(Refusal::RowRecord)));
+    all.into_iter().map(|selection| selection.unwrap().to_string()).collect()
+}
+
+const EVALUATED: Gate = Gate::Evaluated { degree: 2, constants: 0 };
+
+#[test]
+fn a_path() {
+    assert_eq!(shown(&[EVALUATED, Gate::Marker]), ["1", "0"]);
+    let left = selections(&[EVALUATED, Gate::Marker])[0].unwrap().path().unwrap();
+    assert_eq!((left.bits, left.length), (1, 1));
+    assert!(left.steps().eq([true]));
+}
+
+#[test]
+fn a_lone_gate_has_an_empty_path() {
+    for lone in [Gate::Marker, Gate::Unselected] {
+        assert_eq!(shown(&[lone]), [""]);
+        let path = selections(&[lone])[0].unwrap().path().unwrap();
+        assert_eq!((path.bits, path.length), (0, 0));
+    }
+}
+
+#[test]
+fn the_only_placed_gate_of_a_longer_list_has_an_empty_path() {
+    let high = Gate::Evaluated { degree: 64, constants: 0 };
+    assert_eq!(shown(&[high, Gate::Unselected]), ["", "none"]);
+    assert!(matches!(selections(&[high, Gate::Unselected])[0], Ok(Selection::Path(_))));
+}
+
+#[test]
+fn no_selector() {
+    let gates = [EVALUATED, Gate::Unselected, Gate::Marker];
+    assert_eq!(shown(&gates), ["1", "none", "0"]);
+    let middle = selections(&gates)[1].unwrap();
+    assert_eq!((middle, middle.path()), (Selection::NoSelector, None));
+}
+
+#[test]
+fn what_a_path_call_writes() {
+    let dropped = plan();
+    let asked = |plan: &[u64], gate: u64, length: usize| {
+        let mut out = [7; 5];
+        (raw::path(plan, gate, &mut out[..length]), out)
+    };
+    for length in 0..3 {
+        for gate in 0..3 {
+            assert_eq!(asked(dropped.words(), gate, length), (10, [7; 5]));
+        }
+        assert_eq!(asked(&dropped.words()[1..], 0, length), (19, [7; 5]));
+    }
+    for length in 3..6 {
+        assert_eq!(asked(dropped.words(), 0, length), (0, [0, 0, 0, 7, 7]));
+        assert_eq!(asked(dropped.words(), 1, length), (0, [0, 0, 1, 7, 7]));
+        assert_eq!(asked(dropped.words(), 2, length), (12, [0, 0, 0, 7, 7]));
+        assert_eq!(asked(&dropped.words()[1..], 1, length), (19, [0, 0, 0, 7, 7]));
+    }
 }
 
 #[test]

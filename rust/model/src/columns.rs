@@ -3,7 +3,7 @@
 use crate::field::P;
 use crate::gates::{Gate, Parameters};
 use crate::labels::all_labels;
-use crate::plan::{decoded, path_in, Plan, MOST_GATES};
+use crate::plan::{decoded, path_in, PathAnswer, Plan, MOST_GATES};
 use crate::search::Tree;
 
 pub const NEVER: u64 = 0;
@@ -138,18 +138,27 @@ fn row_record<'a>(
     Ok((gate, constants, rest))
 }
 
+/// A row's words before its constants: its gate's path, and none for a gate without selector.
+fn selectors(answer: &PathAnswer) -> Result<Vec<u64>, u64> {
+    match answer {
+        PathAnswer::Path(steps) => Ok(steps.iter().map(|left| *left as u64).collect()),
+        PathAnswer::NoSelector => Ok(vec![]),
+        PathAnswer::UnknownGate => Err(12),
+    }
+}
+
 /// Rows, "first faulty record: 19; 10; 12 ...; 11 ...; 13 past N". "A row writes its
 /// gate's path, then its constants, then zeros".
 pub fn rows(state: &State, piece: &[u64], constants: &mut [u64]) -> Result<State, u64> {
     let (p, gates, tree) = opened(state)?;
     long_enough(constants, constants_length(&state.plan))?;
-    let paths: Vec<_> = (0..gates.len() as u64).map(|gate| path_in(&tree, gate)).collect();
+    let paths: Vec<_> = (0..gates.len() as u64).map(|gate| path_in(&gates, &tree, gate)).collect();
     let mut after = state.clone();
     let mut written = vec![];
     let mut words = piece;
     while !words.is_empty() {
         let (gate, row_constants, rest) = row_record(words, &gates, p.n - after.rows)?;
-        let mut row: Vec<u64> = paths[gate as usize].iter().map(|left| *left as u64).collect();
+        let mut row = selectors(&paths[gate as usize])?;
         row.extend(row_constants);
         row.resize(state.plan.k as usize, 0);
         written.push((after.rows, row));

@@ -1,7 +1,7 @@
 //! A small model of document 01, the authority on the setup stage: its rules in
 //! plain, slow Rust, one module for each heading. Written from 01 and from the
 //! project's readings of it, and from no other code. `padding` is document 02's
-//! Change 1, over the same parts.
+//! Change 1, over the same parts; `plan::PathAnswer` is its Change 2.
 //!
 //! A refusal is its number: `Err(number)`. A refused call writes no word and the
 //! state given stands.
@@ -19,4 +19,4 @@ pub use calls::run_calls;
 pub use columns::{cells, finish, open, rows, s_words, tables, State};
 pub use listing::{program, run_listing};
 pub use padding::pad;
-pub use plan::{path, plan, table_id, Plan};
+pub use plan::{path, plan, table_id, PathAnswer, Plan};

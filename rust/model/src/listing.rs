@@ -1,6 +1,6 @@
 //! 01, "Listing", and the program `setup`.
 use crate::columns::{cells, finish, open, rows, s_words, tables, State};
-use crate::plan::{path, plan, table_id, Plan};
+use crate::plan::{path, plan, table_id, PathAnswer, Plan};
 use std::fmt::Write;
 
 /// The sections of a listing, each as the words of its records.
@@ -105,21 +105,28 @@ fn print_columns(out: &mut String, name: &str, buffer: &[u64], n: u64, count: u6
     }
 }
 
+/// A `path` line after the gate: "path digits [parted] by nothing; an empty path ... ends its
+/// line after the field before it"; "the listing prints `path 1 none`".
+fn path_field(answer: PathAnswer) -> String {
+    match answer {
+        PathAnswer::Path(steps) if steps.is_empty() => String::new(),
+        PathAnswer::Path(steps) => {
+            let digits: String = steps.iter().map(|left| if *left { '1' } else { '0' }).collect();
+            format!(" {digits}")
+        }
+        PathAnswer::NoSelector => " none".to_string(),
+        PathAnswer::UnknownGate => unreachable!("only listed gates are printed"),
+    }
+}
+
 /// "Whole output: D, K, F; gate and path digits; constant column and words; copy column and
 /// words; then table columns as `table`; then id indexes."
 fn print(plan: &Plan, b: &Buffers) -> String {
     let p = plan.parameter();
     let mut out = format!("plan {} {} {}\n", plan.d, plan.k, plan.f);
     for gate in 0..plan.gate_count {
-        let (bits, length) = path(plan, gate).unwrap();
-        write!(out, "path {gate}").unwrap();
-        if length > 0 {
-            out.push(' ');
-        }
-        for i in 0..length {
-            out.push(if bits >> i & 1 == 1 { '1' } else { '0' });
-        }
-        out.push('\n');
+        let answer = path(plan, gate).unwrap();
+        writeln!(out, "path {gate}{}", path_field(answer)).unwrap();
     }
     print_columns(&mut out, "constant", &b.constants, p.n, plan.k + p.s);
     print_columns(&mut out, "copy", &b.copies, p.n, p.c);

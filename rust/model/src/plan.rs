@@ -138,34 +138,45 @@ pub fn decoded(plan: &Plan) -> Result<(Vec<Gate>, Tree), u64> {
     Ok((gates, tree))
 }
 
-/// The path of a gate in a tree: "a dropped gate's is empty".
-pub fn path_in(tree: &Tree, gate: u64) -> Vec<bool> {
-    let leaves = tree.leaves();
-    let found = leaves.into_iter().find(|(leaf, _)| leaf.index as u64 == gate);
-    found.map(|(_, path)| path).unwrap_or_default()
+/// 02, Change 2: "The path answer becomes one of three: a path, no selector, or unknown gate".
+#[derive(Clone, Debug, PartialEq, Eq)]
+pub enum PathAnswer {
+    /// The steps from the root, true for left: "1 left, 0 right".
+    Path(Vec<bool>),
+    NoSelector,
+    UnknownGate,
 }
 
-/// A path as bits, the first step lowest, and a length. "19; 12 gate not listed."
-pub fn path(plan: &Plan, gate: u64) -> Result<(u64, u64), u64> {
-    let (gates, tree) = decoded(plan)?;
+/// The answer for a gate of a list whose tree this is. "A lone gate still has an empty path."
+/// "Otherwise kind 2 is dropped": a dropped gate has no selector.
+pub fn path_in(gates: &[Gate], tree: &Tree, gate: u64) -> PathAnswer {
     if gate >= gates.len() as u64 {
-        return Err(12);
+        return PathAnswer::UnknownGate;
     }
-    let path = path_in(&tree, gate);
-    let mut bits = 0;
-    for (i, left) in path.iter().enumerate() {
-        if *left {
-            bits |= 1 << i;
-        }
+    if gates.len() > 1 && gates[gate as usize].kind == 2 {
+        return PathAnswer::NoSelector;
     }
-    Ok((bits, path.len() as u64))
+    let mut leaves = tree.leaves().into_iter();
+    PathAnswer::Path(leaves.find(|(leaf, _)| leaf.index as u64 == gate).unwrap().1)
+}
+
+/// The answer to a caller: "unknown gate, still 12; 19 is tested before them as today".
+pub fn path(plan: &Plan, gate: u64) -> Result<PathAnswer, u64> {
+    let (gates, tree) = decoded(plan)?;
+    match path_in(&gates, &tree, gate) {
+        PathAnswer::UnknownGate => Err(12),
+        listed => Ok(listed),
+    }
 }
 
 /// "Table-id column: mode 2 the lookup path's length, mode 4 K, else none."
 pub fn table_id(plan: &Plan) -> Result<Option<u64>, u64> {
-    let (_, tree) = decoded(plan)?;
+    let (gates, tree) = decoded(plan)?;
     Ok(match plan.parameter().mode {
-        2 => Some(path_in(&tree, 0).len() as u64),
+        2 => match path_in(&gates, &tree, 0) {
+            PathAnswer::Path(steps) => Some(steps.len() as u64),
+            PathAnswer::NoSelector | PathAnswer::UnknownGate => None,
+        },
         4 => Some(plan.k),
         _ => None,
     })

@@ -5,7 +5,7 @@ use crate::random::Random;
 use model::field::P;
 use model::listing::Buffers;
 use model::plan::MOST_NODES;
-use model::{Plan, State};
+use model::{PathAnswer, Plan, State};
 use oracle::{Outcome, Output};
 
 /// What both judges said of a circuit that document 01 accepts or turns down.
@@ -121,9 +121,10 @@ fn tree_difference(plan: &Plan, o: &Output) -> Option<String> {
         return Some("nodes".to_string());
     }
     for (gate, path) in o.paths.iter().enumerate() {
-        let bits = path.iter().enumerate().map(|(i, left)| (*left as u64) << i).sum::<u64>();
-        if model::path(plan, gate as u64) != Ok((bits, path.len() as u64)) {
-            return Some(format!("path of gate {gate}"));
+        let own = path.clone().map_or(PathAnswer::NoSelector, PathAnswer::Path);
+        let modelled = model::path(plan, gate as u64);
+        if modelled != Ok(own) {
+            return Some(format!("path of gate {gate}: model {modelled:?}, original {path:?}"));
         }
     }
     let ids: Vec<u64> = model::table_id(plan).unwrap().into_iter().collect();

@@ -88,6 +88,9 @@ fn ends() -> Vec<Circuit> {
         with(two, &|x| x.rows = vec![vec![1, 0], vec![1, 0]]),
         value(P - 1),
         value(P),
+        // empty paths: of a lone kind 2 gate, and of a gate beside one without selector
+        Circuit::plain([1, 1, 0, 0, 0, 0, 0, 0], &[[2, 0, 0]]),
+        Circuit::plain([2, 1, 0, 0, 0, 0, 0, 0], &[[0, 64, 0], [2, 0, 0]]),
     ]
 }
 

@@ -16,6 +16,14 @@ pub fn worked(c: &mut Checks) {
     c.same("P8", printed(&Circuit::worked()), wanted.to_string());
     let empty = "plan 0 0 1\npath 0\ncopy 0 1\nids\n";
     c.same("an empty path, no constant column", printed(&Circuit::nop(1, 1, 0)), empty.to_string());
+    let lone = Circuit::plain([1, 1, 0, 0, 0, 0, 0, 0], &[[2, 0, 0]]);
+    c.same("a lone kind 2 gate", printed(&lone), empty.to_string());
+    let two = Circuit::plain([2, 1, 0, 0, 0, 0, 0, 0], &[[0, 64, 0], [2, 0, 0]]);
+    let wanted = "plan 64 0 64\npath 0\npath 1 none\ncopy 0 1 18446744069414584320\nids\n";
+    c.same("one placed gate and one without selector", printed(&two), wanted.to_string());
+    let middle = Circuit::plain([4, 1, 0, 0, 0, 0, 0, 0], &[[0, 2, 0], [2, 0, 0], [1, 0, 0]]);
+    let wanted = "plan 3 1 2\npath 0 1\npath 1 none\npath 2 0\nconstant 0 1 0 0 1\n";
+    c.same("a kind 2 gate in the middle", printed(&middle).starts_with(wanted), true);
     let mut lookup = Circuit::plain([2, 1, 1, 0, 0, 2, 1, 1], &[[3, 0, 0], [0, 1, 0]]);
     let wanted = "plan 2 2 1\npath 0 0\npath 1 1\nconstant 0 0 1\nconstant 1 0 0\n\
         copy 0 1 18446744069414584320\ntable 0 0 0\ntable 1 0 0\nids 1\n";

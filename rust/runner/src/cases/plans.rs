@@ -3,7 +3,7 @@ use crate::made_up::{balanced_65, chain};
 use model::field::{add, is_non_residue, mul, pow, sub, P};
 use model::labels::{label, representatives};
 use model::plan::Plan;
-use model::{path, plan, table_id};
+use model::{path, plan, table_id, PathAnswer};
 
 pub fn field(c: &mut Checks) {
     c.same("P1", add(P - 1, P - 1), P - 2);
@@ -36,7 +36,12 @@ pub fn labels(c: &mut Checks) {
     c.same("the last cell", label(2, 2, 3), Ok(P - 7));
 }
 
-fn paths(mode: u64, a: u64, gates: &[u64]) -> Result<(Vec<(u64, u64)>, [u64; 3]), u64> {
+/// A path, written as its digits.
+fn digits(text: &str) -> PathAnswer {
+    PathAnswer::Path(text.chars().map(|digit| digit == '1').collect())
+}
+
+fn paths(mode: u64, a: u64, gates: &[u64]) -> Result<(Vec<PathAnswer>, [u64; 3]), u64> {
     let (w, flag) = if mode == 0 { (0, 0) } else { (1, 1) };
     let plan = plan([1, 1, a, 1, 0, mode, w, flag], gates)?;
     let all = (0..plan.gate_count).map(|gate| path(&plan, gate).unwrap()).collect();
@@ -47,14 +52,21 @@ pub fn planning(c: &mut Checks) {
     let lookup = model::gates::Gate { index: 0, kind: 3, degree: 0, constants: 0 };
     c.same("P5", [0, 2, 5].map(|depth| lookup.degree_at(depth)), [2, 2, 5]);
     let p6 = [0, 2, 1, 0, 1, 0, 1, 0, 0];
-    c.same("P6", paths(0, 1, &p6), Ok((vec![(1, 1), (2, 2), (0, 2)], [3, 2, 2])));
-    c.same("P10", paths(0, 0, &[1, 0, 0]), Ok((vec![(0, 0)], [0, 0, 1])));
+    c.same("P6", paths(0, 1, &p6), Ok((["1", "01", "00"].map(digits).to_vec(), [3, 2, 2])));
+    c.same("P10", paths(0, 0, &[1, 0, 0]), Ok((vec![digits("")], [0, 0, 1])));
     c.same("64 gates at target 8", paths(0, 0, &[0, 2, 0].repeat(64)).map(|x| x.1), Ok([8, 6, 8]));
     c.same("65 gates", paths(0, 0, &[0, 2, 0].repeat(65)), Err(8));
-    let both = Ok((vec![(0, 1), (1, 1)], [2, 1, 1]));
+    let both = Ok((["0", "1"].map(digits).to_vec(), [2, 1, 1]));
     c.same("the lookup gate sorts by its degree word", paths(1, 0, &[3, 0, 0, 0, 1, 0]), both);
-    let one_placed = Ok((vec![(0, 0), (0, 0)], [64, 0, 64]));
+    let one_placed = Ok((vec![digits(""), PathAnswer::NoSelector], [64, 0, 64]));
     c.same("one placed gate of two", paths(0, 0, &[0, 64, 0, 2, 0, 0]), one_placed);
+    c.same("a lone kind 2 gate", paths(0, 0, &[2, 0, 0]), Ok((vec![digits("")], [0, 0, 1])));
+    let middle = vec![digits("1"), PathAnswer::NoSelector, digits("0")];
+    let with_middle = paths(0, 0, &[0, 2, 0, 2, 0, 0, 1, 0, 0]);
+    c.same("a kind 2 gate in the middle", with_middle, Ok((middle, [3, 1, 2])));
+    let first = vec![PathAnswer::NoSelector, PathAnswer::NoSelector, digits("")];
+    let with_first = paths(0, 0, &[2, 0, 0, 2, 0, 0, 0, 1, 0]);
+    c.same("two kind 2 gates before the placed one", with_first, Ok((first, [1, 0, 1])));
     for (name, mode, a, gates, number) in [
         ("4 before 5", 0, 0, &[3, 0, 0, 0, 1, 0, 4, 0, 0][..], 4),
         ("a lookup record with a constant", 2, 1, &[3, 0, 1, 0, 1, 0], 4),
@@ -76,14 +88,16 @@ pub fn planning(c: &mut Checks) {
     let good = plan([1, 1, 0, 0, 0, 0, 0, 0], &[1, 0, 0]).unwrap();
     c.same("gate not listed", path(&good, 1), Err(12));
     c.same("gate not listed", path(&good, u64::MAX), Err(12));
+    let dropped = plan([2, 1, 0, 0, 0, 0, 0, 0], &[0, 1, 0, 2, 0, 0]).unwrap();
+    c.same("no gate after a dropped one", path(&dropped, 2), Err(12));
 }
 
 pub fn made_up(c: &mut Checks) {
     c.same("a plan of zeros", path(&Plan::zero(), 0), Err(19));
     c.same("19 before 12", path(&Plan::zero(), 9), Err(19));
     c.same("a plan of zeros", table_id(&Plan::zero()), Err(19));
-    c.same("a list that the search refuses", path(&balanced_65(), 0).map(|x| x.1), Ok(7));
-    c.same("a leaf at depth 31", path(&chain(32), 31), Ok((0, 31)));
+    c.same("a list that the search refuses", path(&balanced_65(), 0), Ok(digits("1111111")));
+    c.same("a leaf at depth 31", path(&chain(32), 31), Ok(digits(&"0".repeat(31))));
     c.same("a leaf at depth 32", path(&chain(33), 0), Err(19));
     let lone = plan([1, 1, 0, 0, 0, 0, 0, 0], &[1, 0, 0]).unwrap();
     let with_spare = |spare: [u64; 3], count: u64| {
@@ -92,9 +106,9 @@ pub fn made_up(c: &mut Checks) {
         plan.nodes[1] = spare;
         path(&plan, 0)
     };
-    c.same("a spare leaf", with_spare([0, 0, 0], 2), Ok((0, 0)));
+    c.same("a spare leaf", with_spare([0, 0, 0], 2), Ok(digits("")));
     c.same("a spare fork with bad children", with_spare([0, 9, 0], 2), Err(19));
-    c.same("a spare fork that is not counted", with_spare([0, 9, 0], 1), Ok((0, 0)));
+    c.same("a spare fork that is not counted", with_spare([0, 9, 0], 1), Ok(digits("")));
     c.same("nodes past the slots", with_spare([0, 0, 0], 256), Err(19));
     c.same("no node", with_spare([0, 0, 0], 0), Err(19));
     let two = plan([2, 1, 0, 0, 0, 0, 0, 0], &[0, 1, 0, 1, 0, 0]).unwrap();

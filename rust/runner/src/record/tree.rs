@@ -153,7 +153,8 @@ fn random_lists(r: &mut Random) -> Vec<Request> {
 }
 
 /// Eight parameters, the number of gate words, these, the answer's number; if 0 then D, K,
-/// F, each gate's path as bits and length, and the number of ids (0 or 1) and the index.
+/// F, for each gate its path as bits and length and 1 where it has no selector, and the number
+/// of ids (0 or 1) and the index.
 fn plan_record((parameters, gates): &Request, words: &mut Vec<u64>) {
     words.extend(parameters);
     words.push(gates.len() as u64);
@@ -168,9 +169,8 @@ fn plan_record((parameters, gates): &Request, words: &mut Vec<u64>) {
     room[0] = room[0].max(records.len().next_power_of_two() as u64);
     let made = oracle::run(&Circuit::plain(room, &records).listing()).expect("an accepted plan");
     words.extend([0, made.d, made.k, made.f]);
-    for path in &made.paths {
-        let bits = path.iter().enumerate().map(|(i, left)| (*left as u64) << i).sum::<u64>();
-        words.extend([bits, path.len() as u64]);
+    for gate in 0..records.len() {
+        words.extend(made.path_words(gate));
     }
     words.extend([made.ids.len() as u64, made.ids.first().copied().unwrap_or(0)]);
 }

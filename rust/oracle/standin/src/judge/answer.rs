@@ -10,8 +10,8 @@ pub struct Output {
     pub d: u64,
     pub k: u64,
     pub f: u64,
-    /// Of every listed gate; a 1 (left) is true. Empty for a dropped gate.
-    pub paths: Vec<Vec<bool>>,
+    /// Of every listed gate; a 1 (left) is true. `None` for a dropped gate.
+    pub paths: Vec<Option<Vec<bool>>>,
     /// The tree in preorder: left child, right child, gate; 0 where there is none.
     pub nodes: Vec<[u64; 3]>,
     pub constants: Vec<Vec<u64>>,
@@ -50,7 +50,7 @@ pub fn create(assembly: &Assembly, gates: usize, worker: &Worker) -> Output {
         d: d as u64,
         k: k as u64,
         f: f as u64,
-        paths: (0..gates).map(|g| tree.output_placement(g).unwrap_or_default()).collect(),
+        paths: (0..gates).map(|g| tree.output_placement(g)).collect(),
         nodes,
         constants: base.constant_columns.iter().map(|x| words(&x.storage)).collect(),
         copies: base.copy_permutation_polys.iter().map(|x| words(&x.storage)).collect(),
@@ -60,14 +60,27 @@ pub fn create(assembly: &Assembly, gates: usize, worker: &Worker) -> Output {
 }
 
 impl Output {
+    /// A gate's path: bits, the first step lowest, length, and 1 where there is no path.
+    pub fn path_words(&self, gate: usize) -> [u64; 3] {
+        let Some(path) = &self.paths[gate] else {
+            return [0, 0, 1];
+        };
+        let bits = path.iter().enumerate().map(|(i, left)| (*left as u64) << i).sum();
+        [bits, path.len() as u64, 0]
+    }
+
     pub fn text(&self) -> String {
         let mut out = format!("plan {} {} {}\n", self.d, self.k, self.f);
         for (gate, path) in self.paths.iter().enumerate() {
             write!(out, "path {gate}").unwrap();
-            if !path.is_empty() {
-                out.push(' ');
+            match path {
+                Some(path) if path.is_empty() => {}
+                Some(path) => {
+                    out.push(' ');
+                    out.extend(path.iter().map(|left| if *left { '1' } else { '0' }));
+                }
+                None => out += " none",
             }
-            out.extend(path.iter().map(|left| if *left { '1' } else { '0' }));
             out.push('\n');
         }
         columns(&mut out, "constant", &self.constants);
