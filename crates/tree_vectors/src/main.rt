@@ -60,15 +60,17 @@ fn fill(bytes: &[u8], start: Replay, count: u64, words: &mut [u64; 1024]) -> Rep
     s
 }
 
-// The paths of the listed gates.
+// What is answered of the listed gates.
 fn replay_paths(bytes: &[u8], start: Replay, plan: Plan, gates: u64) -> Replay {
     let mut s = start;
     let mut left = gates % 256;
     let mut gate: u64 = 0;
     while 0 < left {
         let path = plan.path(gate);
-        s = s.expect(bytes, path.bits)
-            .expect(bytes, path.length)
+        let selection = path.selection;
+        s = s.expect(bytes, selection.bits())
+            .expect(bytes, selection.length())
+            .expect(bytes, selection.bare())
             .note(path.number == 0);
         left -= 1;
         gate = (gate + 1) % 256;

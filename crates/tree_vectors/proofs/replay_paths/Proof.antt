@@ -18,11 +18,23 @@ loop-holds c = omega arith
 path-requires : tie.Need-path-requires Inv-loop μ-loop
 path-requires c κs = search needs
 
+bits-requires : tie.Need-bits-requires Inv-loop μ-loop
+bits-requires c κs = search needs
+
 expect-requires : tie.Need-expect-requires Inv-loop μ-loop
 expect-requires c κs = search needs
 
+length-requires : tie.Need-length-requires Inv-loop μ-loop
+length-requires c κs = search needs
+
 expect-requires-2 : tie.Need-expect-requires-2 Inv-loop μ-loop
 expect-requires-2 c κs = search needs
+
+bare-requires : tie.Need-bare-requires Inv-loop μ-loop
+bare-requires c κs = search needs
+
+expect-requires-3 : tie.Need-expect-requires-3 Inv-loop μ-loop
+expect-requires-3 c κs = search needs
 
 note-requires : tie.Need-note-requires Inv-loop μ-loop
 note-requires c κs = search needs
@@ -56,8 +68,12 @@ replay-paths-spec =
     μ-loop
     loop-holds
     path-requires
+    bits-requires
     expect-requires
+    length-requires
     expect-requires-2
+    bare-requires
+    expect-requires-3
     note-requires
     sub-left
     add-gate

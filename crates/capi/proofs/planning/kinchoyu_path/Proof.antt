@@ -1,12 +1,16 @@
--- `planning::kinchoyu_path` meets its contract: the path of the plan that stands in the words.
+-- `planning::kinchoyu_path` meets its contract: what the plan that stands in the words answers of the gate.
 -- Assumes nothing.
 use borrow.Author.Needs.{needs}
-use mathlib.Core.Path.{_∙_, _≡_, ap, sym}
+use Prim.Native.Nat.{ℕ}
+use mathlib.Core.List.{List, [], _∷_}
+use mathlib.Core.Path.{_∙_, _≡_, ap, refl, sym}
 use native.Mathlib.Omega.{arith}
 use Rattle.tree.specs.Plan.{planFault}
 use Rattle.tree.specs.PlanLaws.{zero-fault}
 use Rattle.encoding.specs.Encoding.{planOf}
 use Rattle.encoding.specs.Held.{Plans, plans, plans-none}
+use Rattle.writer.specs.Hand.{handed}
+use Rattle.capi.specs.Planning.{pathWords}
 use Rattle.capi.specs.PlanningLaws.{path-called, path-none}
 use Rattle.capi.proofs.planning.kinchoyu_path.Statement.{statement}
 use Rattle.capi.proofs.planning.kinchoyu_path.Tie as tie
@@ -39,6 +43,15 @@ part-nodes-end c = omega (arith, held (c .before .before) .long)
 parts-path-requires : tie.Need-parts-path-requires
 parts-path-requires c κs = search needs
 
+bits-requires : tie.Need-bits-requires
+bits-requires c κs = search needs
+
+length-requires : tie.Need-length-requires
+length-requires c κs = search needs
+
+bare-requires : tie.Need-bare-requires
+bare-requires c κs = search needs
+
 slice-aggregate-hand : tie.Need-slice-aggregate-hand
 slice-aggregate-hand c = search needs
 
@@ -53,9 +66,12 @@ same-length c = search needs
 
 returns : tie.Need-returns
 returns c =
-    let a = c .before .before .before .before .before .before .before .before .before .before .before .before .before .before .args in
+    let a = c .before .before .before .before .before .before .before .before .before .before .before .before .before .before .before .before .before .args in
     let h = c .before .before .before .hand in
-    path-called (a .plan .now) (a .out .now) (a .gate) _ _ _ _ (held (c .before .before .before .before .before .before .before .before .before .before) .parts) (c .before .before .before .before .before .before .parts-path .ensures) (h .ensures) (c .with-room .ensures) (h .kept .1 .0)
+    let answer = c .before .before .before .before .before .before .before .before .before .parts-path in
+    let told : (c .before .before .before .before .before .before .before .before .bits .result ∷ c .before .before .before .before .before .before .before .length .result ∷ c .before .before .before .before .before .before .bare .result ∷ []) ≡ pathWords (answer .result .selection) =
+    rw (c .before .before .before .before .before .before .before .before .bits .ensures, c .before .before .before .before .before .before .before .length .ensures, c .before .before .before .before .before .before .bare .ensures) refl in
+    path-called (a .plan .now) (a .out .now) (a .gate) _ (answer .result) _ _ (held (c .before .before .before .before .before .before .before .before .before .before .before .before .before) .parts) (answer .ensures) (h .ensures ∙ ap (λ (ws : List ℕ). handed ws (a .out .now)) told) (c .with-room .ensures) (h .kept .1 .0)
 
 -- words that hold none have a fault
 none : (c : tie.Else1) → planFault (planOf (c .before .before .before .before .args .plan .now)) ≡ 19
@@ -87,6 +103,9 @@ kinchoyu-path-spec =
     part-nodes-start
     part-nodes-end
     parts-path-requires
+    bits-requires
+    length-requires
+    bare-requires
     slice-aggregate-hand
     hand-requires
     with-room-requires
