@@ -30,7 +30,7 @@ use Rattle.columns.specs.declared.intake.Taken.{Taken}
 use Rattle.claim.specs.Chain.{Kept, answer, left}
 use Rattle.claim.specs.Statement.{heldOf, settingFor, Opened, kept}
 use Rattle.claim.specs.Theorem.{claim}
-use Rattle.cases.specs.Columns.{setting-known, old, lone, lone-path, three, four, nop, two, p9-calls, x₉, accepts₆, accepts₉, known₉, found₉, labels₉, opens₉, kept₉}
+use Rattle.cases.specs.Columns.{setting-known, old, lone, path₉, three, four, nop, two, p9-calls, x₉, accepts₆, accepts₉, known₉, found₉, labels₉, opens₉, kept₉}
 use Rattle.cases.specs.SaidOfOthers.{finished₉}
 
 -- ---- planning: N=3 is no power of two
@@ -55,7 +55,7 @@ degree₆ = ap (λ (a : Planned). a .plan .degree) (claim four three (old 1 5 3)
 
 -- ---- opening P9's plan, over buffers with room and over copies of three words
 setting₉ : settingFor two nop ≡ x₉
-setting₉ = setting-known two nop (lone 2 2 1) accepts₉ known₉ (λ g. pathOf g (leaf 0)) (lone-path 2 2 1) (1 ∷ (p - 1) ∷ 7 ∷ (p - 7) ∷ []) found₉ labels₉
+setting₉ = setting-known two nop (lone 2 2 1) accepts₉ known₉ (λ g. pathOf g (leaf 0)) path₉ (1 ∷ (p - 1) ∷ 7 ∷ (p - 7) ∷ []) found₉ labels₉
 
 fresh-copies : openStore x₉ (old 1 5 3) .cells .copies ≡ 1 ∷ (p - 1) ∷ 7 ∷ (p - 7) ∷ 9 ∷ []
 unfolding lone old

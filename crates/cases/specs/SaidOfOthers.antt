@@ -4,6 +4,7 @@
 --
 -- Main definition: `SaidOfOthers`. Main statement: `others-say`.
 use mathlib.Core.Path.{_≡_, refl, sym, ap, _∙_, subst}
+use mathlib.Core.Option.{some}
 use mathlib.Core.Logic.{_≢_, inl, inr}
 use mathlib.Core.Bool.{true, false}
 use mathlib.Core.List.{List, [], _∷_}
@@ -18,7 +19,7 @@ use Rattle.labels.specs.Labels.{searchNumber, found, searchFrom}
 use Rattle.labels.specs.Ranges.{rangesFit}
 use Rattle.selector.specs.Gates.{constantsOf, degreeAt, placedFrom, comesBefore, inserted, sorted, greatest}
 use Rattle.selector.specs.MadeUp.{wanted}
-use Rattle.selector.specs.Nodes.{mostLevels, nodeSlots, nodeWords}
+use Rattle.selector.specs.Nodes.{mostLevels, nodeSlots, nodeWords, treeAt}
 use Rattle.selector.specs.NodeLaws.{own-tree}
 use Rattle.selector.specs.Refusals.{wordsFit, recordNumber, recordsNumber, someKind, lookupNumber, kindsNumber, constantsNumber, gatesNumber}
 use Rattle.selector.specs.Search.{mayStand, firstBound, firstTarget, treeWithin, searchTree, planTree, degreeOver, constantsOver}
@@ -45,7 +46,7 @@ use Rattle.claim.specs.Chain.{Kept, answer}
 use Rattle.claim.specs.Statement.{product, noughts, RowOf, Stands, Has, SameColumns, Right, settingFor, kept, Finished}
 use Rattle.claim.specs.Model.{circuitBy, FinishesBy}
 use Rattle.claim.specs.Theorem.{claim}
-use Rattle.cases.specs.Columns.{settingWith, setting-known, kept-known, path-of, old, lone, lone-path, one, nop, two, p9-calls, p9-refused, x₉, accepts₉, known₉, found₉, labels₉, opens₉, p9}
+use Rattle.cases.specs.Columns.{settingWith, setting-known, kept-known, path-of, known-fault, old, lone, path₉, one, nop, two, p9-calls, p9-refused, x₉, accepts₉, known₉, found₉, labels₉, opens₉, p9}
 use Rattle.cases.specs.Listed.{parameters, gates, plan-number, plan, tree, plan-known, path-is}
 use Rattle.cases.specs.Drawn.{finished, circuit-known, drawn}
 use Rattle.cases.specs.SaidOfListing.{labels₈, circuit₈, x₈, calls₈, found₈, labels-known₈}
@@ -75,17 +76,20 @@ planₗ =
       factor = 2;
     }
 
-acceptsₗ : planNumber looking dropping ≡ 0
+pub acceptsₗ : planNumber looking dropping ≡ 0
 unfolding orNumber exponentFrom rangesFit rangeNumber flagNumber parametersNumber wordsFit recordNumber recordsNumber someKind lookupNumber kindsNumber constantsNumber gatesNumber wordsNumber planNumber constantsOf degreeAt placedFrom comesBefore inserted sorted greatest offer offerAll grown mayStand firstBound firstTarget treeWithin searchTree planTree
 acceptsₗ = refl
 
-knownₗ : planned looking dropping ≡ planₗ
+pub knownₗ : planned looking dropping ≡ planₗ
 unfolding planₗ tree orNumber exponentFrom rangesFit rangeNumber flagNumber parametersNumber lookupOf wordsFit recordNumber recordsNumber someKind lookupNumber kindsNumber constantsNumber gatesNumber wordsNumber planNumber planned constantsOf degreeAt placedFrom comesBefore inserted sorted greatest offer offerAll grown mayStand firstBound firstTarget treeWithin searchTree planTree degreeOver constantsOver
 knownₗ = refl
 
-pathₗ : planPath planₗ ≡ (λ g. pathOf g tree)
+pub standsₗ : treeAt mostLevels (planₗ .nodes) 0 ≡ some tree
 unfolding planₗ tree
-pathₗ = path-of planₗ tree (own-tree tree (replicate nodeSlots 0) (omega arith) mostLevels (omega arith))
+standsₗ = own-tree tree (replicate nodeSlots 0) (omega arith) mostLevels (omega arith)
+
+pathₗ : planPath planₗ ≡ (λ g. pathOf g tree)
+pathₗ = path-of planₗ tree (known-fault looking dropping planₗ acceptsₗ knownₗ) standsₗ
 
 foundₗ : searchNumber (planₗ .trace) (planₗ .copy) ≡ 0
 unfolding planₗ searchNumber found searchFrom
@@ -258,19 +262,19 @@ unfolding lone old roomToOpen openNumber
 opens-among = refl
 
 pub finished₉ : Finished two nop (old 1 5 3) p9-calls
-finished₉ = finished two nop (lone 2 2 1) accepts₉ known₉ (λ g. pathOf g (leaf 0)) (lone-path 2 2 1) _ found₉ labels₉ (old 1 5 3) p9-calls opens₉ (runs₉ .0)
+finished₉ = finished two nop (lone 2 2 1) accepts₉ known₉ (λ g. pathOf g (leaf 0)) path₉ _ found₉ labels₉ (old 1 5 3) p9-calls opens₉ (runs₉ .0)
 
 alike₉ : SameColumns (settingFor two nop) (kept two nop (old 1 5 3) p9-calls .store) (kept two nop (old 1 4 2) p9-refused .store)
 alike₉ =
     claim two nop (old 1 5 3) p9-calls .alike
     finished₉
     two nop (old 1 4 2) p9-refused
-    (finished two nop (lone 2 2 1) accepts₉ known₉ (λ g. pathOf g (leaf 0)) (lone-path 2 2 1) _ found₉ labels₉ (old 1 4 2) p9-refused opens-among (runs₉ .1))
-    (ap (λ (k : Circuit). record { parameters = two; gates = nop; words = k }) (circuit-known two nop (lone 2 2 1) accepts₉ known₉ (λ g. pathOf g (leaf 0)) (lone-path 2 2 1) _ found₉ labels₉ (old 1 5 3) p9-calls opens₉ ∙ (runs₉ .2) ∙ sym (circuit-known two nop (lone 2 2 1) accepts₉ known₉ (λ g. pathOf g (leaf 0)) (lone-path 2 2 1) _ found₉ labels₉ (old 1 4 2) p9-refused opens-among)))
+    (finished two nop (lone 2 2 1) accepts₉ known₉ (λ g. pathOf g (leaf 0)) path₉ _ found₉ labels₉ (old 1 4 2) p9-refused opens-among (runs₉ .1))
+    (ap (λ (k : Circuit). record { parameters = two; gates = nop; words = k }) (circuit-known two nop (lone 2 2 1) accepts₉ known₉ (λ g. pathOf g (leaf 0)) path₉ _ found₉ labels₉ (old 1 5 3) p9-calls opens₉ ∙ (runs₉ .2) ∙ sym (circuit-known two nop (lone 2 2 1) accepts₉ known₉ (λ g. pathOf g (leaf 0)) path₉ _ found₉ labels₉ (old 1 4 2) p9-refused opens-among)))
 
 copy-room : copyRoom (settingFor two nop) ≡ 4
 unfolding lone
-copy-room = ap copyRoom (setting-known two nop (lone 2 2 1) accepts₉ known₉ (λ g. pathOf g (leaf 0)) (lone-path 2 2 1) _ found₉ labels₉)
+copy-room = ap copyRoom (setting-known two nop (lone 2 2 1) accepts₉ known₉ (λ g. pathOf g (leaf 0)) path₉ _ found₉ labels₉)
 
 among-copies : take 4 (kept two nop (old 1 4 2) p9-refused .store .cells .copies) ≡ 7 ∷ 1 ∷ (p - 1) ∷ (p - 7) ∷ []
 among-copies = ap (λ (n : ℕ). take n (kept two nop (old 1 4 2) p9-refused .store .cells .copies)) (sym copy-room) ∙ sym (alike₉ .copies) ∙ ap (λ (n : ℕ). take n (kept two nop (old 1 5 3) p9-calls .store .cells .copies)) copy-room ∙ ap (take 4) p9
@@ -297,17 +301,20 @@ plan₂ =
       factor = 1;
     }
 
-accepts₂ : planNumber one only-2 ≡ 0
+pub accepts₂ : planNumber one only-2 ≡ 0
 unfolding orNumber exponentFrom rangesFit rangeNumber flagNumber parametersNumber wordsFit recordNumber recordsNumber someKind lookupNumber kindsNumber constantsNumber gatesNumber wordsNumber planNumber constantsOf planTree
 accepts₂ = refl
 
-known₂ : planned one only-2 ≡ plan₂
+pub known₂ : planned one only-2 ≡ plan₂
 unfolding plan₂ orNumber exponentFrom rangesFit rangeNumber flagNumber parametersNumber lookupOf wordsFit recordNumber recordsNumber someKind lookupNumber kindsNumber constantsNumber gatesNumber wordsNumber planNumber planned constantsOf degreeAt planTree degreeOver constantsOver
 known₂ = refl
 
-path₂ : planPath plan₂ ≡ (λ g. pathOf g (leaf 0))
+pub stands₂ : treeAt mostLevels (plan₂ .nodes) 0 ≡ some (leaf 0)
 unfolding plan₂
-path₂ = path-of plan₂ (leaf 0) (own-tree (leaf 0) (replicate nodeSlots 0) (omega arith) mostLevels (omega arith))
+stands₂ = own-tree (leaf 0) (replicate nodeSlots 0) (omega arith) mostLevels (omega arith)
+
+path₂ : planPath plan₂ ≡ (λ g. pathOf g (leaf 0))
+path₂ = path-of plan₂ (leaf 0) (known-fault one only-2 plan₂ accepts₂ known₂) stands₂
 
 found₂ : searchNumber (plan₂ .trace) (plan₂ .copy) ≡ 0
 unfolding plan₂ searchNumber found searchFrom

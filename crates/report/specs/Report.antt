@@ -10,7 +10,7 @@ use lib.ListN.{length, take, drop}
 use Rattle.base.specs.Pick.{pick, both}
 use Rattle.bytes.specs.Text.{field, fields}
 use Rattle.pieces.specs.Setting.{Setting, constantRoom, copyRoom, tableRoom}
-use Rattle.selector.specs.Paths.{Selector, noSelector, path, unknownGate}
+use Rattle.selector.specs.Paths.{Selector, aPath, noSelector, unknownGate}
 use Rattle.tree.specs.Plan.{planFault, planSelector, tableIdAnswer}
 use Rattle.tree.specs.declared.plan.Plan.{Plan}
 use Rattle.columns.specs.Intake.{settingOf}
@@ -75,7 +75,7 @@ stepsField (d ∷ ds) = 32 ∷ digitsOf (d ∷ ds)
 
 -- 02, Change 2: "the listing prints `path 1 none`"; only listed gates have a line
 abbrev pub selectorField : Selector → List ℕ
-selectorField (path p) = stepsField p
+selectorField (aPath p) = stepsField p
 selectorField noSelector = 32 ∷ noneName
 selectorField unknownGate = []
 

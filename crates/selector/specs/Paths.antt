@@ -28,18 +28,18 @@ pathOf g t = orEmpty (pathTo g t)
 
 -- 02, Change 2: "The path answer becomes one of three: a path, no selector, or unknown gate"
 pub data Selector : Type 0 where
-  path : List ℕ → Selector
+  aPath : List ℕ → Selector
   noSelector : Selector
   unknownGate : Selector
 
 -- a listed gate at a leaf has its path, one at no leaf, a dropped gate, has no selector
 abbrev pub selected : Option (List ℕ) → Selector
-selected (some p) = path p
+selected (some p) = aPath p
 selected none = noSelector
 
 -- the steps that an answer has; only a path has any
 abbrev pub steps : Selector → List ℕ
-steps (path p) = p
+steps (aPath p) = p
 steps noSelector = []
 steps unknownGate = []
 

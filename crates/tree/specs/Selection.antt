@@ -5,13 +5,13 @@ use Prim.Native.Nat.{ℕ}
 use lib.ListN.{length}
 use mathlib.Core.Path.{_≡_, refl}
 use Rattle.base.specs.Digits.{digits}
-use Rattle.selector.specs.Paths.{Selector, bitsOf, noSelector, path, steps, unknownGate}
+use Rattle.selector.specs.Paths.{Selector, aPath, bitsOf, noSelector, steps, unknownGate}
 use Rattle.tree.specs.declared.selection.Selection.{Selection}
 use Rattle.tree.specs.declared.selection.Selection.the-variants.{NoSelector, Path, UnknownGate}
 
 -- a path in words: "bits and a length"
 abbrev pub selectionOf : Selector → Selection
-selectionOf (path p) = Path (bitsOf p) (length p)
+selectionOf (aPath p) = Path (bitsOf p) (length p)
 selectionOf noSelector = NoSelector
 selectionOf unknownGate = UnknownGate
 
@@ -40,13 +40,13 @@ selectionBare UnknownGate = 0
 
 -- words read as an answer
 abbrev pub selectorOf : Selection → Selector
-selectorOf (Path b l) = path (digits l b)
+selectorOf (Path b l) = aPath (digits l b)
 selectorOf NoSelector = noSelector
 selectorOf UnknownGate = unknownGate
 
 -- bits and length are those of the steps, and zeros are those of none
 pub selection-steps : (s : Selector) → (selectionBits (selectionOf s) ≡ bitsOf (steps s)) × (selectionLength (selectionOf s) ≡ length (steps s))
 unfolding bitsOf
-selection-steps (path p) = (refl, refl)
+selection-steps (aPath p) = (refl, refl)
 selection-steps noSelector = (refl, refl)
 selection-steps unknownGate = (refl, refl)

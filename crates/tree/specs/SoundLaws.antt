@@ -27,7 +27,7 @@ use Rattle.selector.specs.MadeUp.{wanted}
 use Rattle.selector.specs.MadeUpLaws.{Sturdy, tree-constants, unwanted-bare, wanted-few}
 use Rattle.selector.specs.Nodes.{mostLevels, treeAt}
 use Rattle.selector.specs.PathLaws.{Parted, bits-digits, only-path, path-cases, path-digits, path-fits, path-none, path-some, pathless, paths-parted, selected-steps, unlisted-path}
-use Rattle.selector.specs.Paths.{Selector, noSelector, orEmpty, path, pathOf, pathTo, selected, steps, unknownGate}
+use Rattle.selector.specs.Paths.{Selector, aPath, noSelector, orEmpty, pathOf, pathTo, selected, steps, unknownGate}
 use Rattle.selector.specs.RecordLaws.{gates-sound}
 use Rattle.selector.specs.Refusals.{gatesNumber, recordsNumber}
 use Rattle.selector.specs.Tree.{Tree, standing}
@@ -140,7 +140,7 @@ module _ (q : Plan) (e : planFault q ≡ 0) where
   path-answers g = rw (eq-eqb (planFault q) 0 e) (by (planSelector q g) (sound .digits g))
     where
       by : (s : Selector) → Each (λ (d : ℕ). d < 2) (steps s) → selectorOf (selectionOf s) ≡ s
-      by (path p) each = ap path (bits-digits p each)
+      by (aPath p) each = ap aPath (bits-digits p each)
       by noSelector each = refl
       by unknownGate each = refl
 
@@ -155,25 +155,25 @@ module _ (q : Plan) (e : planFault q ≡ 0) where
   dropped-path g h w = path-none (nodes .tree) g (nodes .once g h ∙ omega (arith, ltb-false 0 (wanted words many g) w))
 
   -- 02, Change 2, of a listed gate: one that is placed has its path, one that is not, a kind 2 gate of a longer list, has no selector
-  pub selector-known : (g : ℕ) → g < many → planSelector q g ≡ pick (planPlaced q g) (path (planPath q g)) noSelector
+  pub selector-known : (g : ℕ) → g < many → planSelector q g ≡ pick (planPlaced q g) (aPath (planPath q g)) noSelector
   selector-known g h = by (planPlaced q g) refl
     where
       listed : planSelector q g ≡ selected (pathTo g (nodes .tree))
       listed = rw (lt-ltb g many h, nodes .is) refl
 
-      by : (b : Bool) → planPlaced q g ≡ b → planSelector q g ≡ pick b (path (planPath q g)) noSelector
-      by true w = let p = placed-path g h w in listed ∙ ap selected (p .1) ∙ ap path (sym (p .2))
+      by : (b : Bool) → planPlaced q g ≡ b → planSelector q g ≡ pick b (aPath (planPath q g)) noSelector
+      by true w = let p = placed-path g h w in listed ∙ ap selected (p .1) ∙ ap aPath (sym (p .2))
       by false w = listed ∙ ap selected (dropped-path g h w)
 
   pub bare-word : (g : ℕ) → g < many → selectionBare (planSelection q g) ≡ pick (planPlaced q g) 0 1
   bare-word g h = ap (λ (s : Selector). selectionBare (selectionOf s)) (selector-known g h) ∙ by (planPlaced q g)
     where
-      by : (b : Bool) → selectionBare (selectionOf (pick b (path (planPath q g)) noSelector)) ≡ pick b 0 1
+      by : (b : Bool) → selectionBare (selectionOf (pick b (aPath (planPath q g)) noSelector)) ≡ pick b 0 1
       by true = refl
       by false = refl
 
   -- "A lone gate still has an empty path", and so has the only placed gate of a longer list
-  pub only-placed : (g : ℕ) → g < many → planPlaced q g ≡ true → ((h : ℕ) → h < many → h ≢ g → planPlaced q h ≡ false) → planSelector q g ≡ path []
+  pub only-placed : (g : ℕ) → g < many → planPlaced q g ≡ true → ((h : ℕ) → h < many → h ≢ g → planPlaced q h ≡ false) → planSelector q g ≡ aPath []
   only-placed g h w others =
       let one : standing g (nodes .tree) ≡ 1 = omega (arith, nodes .once g h, ltb-true 0 (wanted words many g) w, wanted-few words many g) in
       let empty = only-path many (nodes .tree) g (nodes .listed) one (λ k l n. nodes .once k l ∙ omega (arith, ltb-false 0 (wanted words many k) (others k l n))) in
