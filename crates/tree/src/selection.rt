@@ -50,7 +50,7 @@ impl Selection {
         match self {
             Selection::Path { .. } => 0,
             Selection::NoSelector => 1,
-            Selection::UnknownGate => 0,
+            Selection::UnknownGate => 0, // nothing is known of it
         }
     }
 }
