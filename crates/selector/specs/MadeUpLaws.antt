@@ -7,7 +7,7 @@ use lib.Dec.{eqb, leb, ltb}
 use lib.ListN.{length, replicate}
 use mathlib.Core.Bool.{Bool, false, true}
 use mathlib.Core.List.{List}
-use mathlib.Core.Logic.{inr}
+use mathlib.Core.Logic.{_↔_, _≢_, inr}
 use mathlib.Core.Option.{Option, none, some}
 use mathlib.Core.Path.{_∙_, _≡_, refl, subst, sym}
 use native.Mathlib.Decide.{decLt, ℕ-discrete}
@@ -253,7 +253,7 @@ tree-constants gs m x s (fork l r) d e =
     let b = both-true (allListed m l) (allListed m r) e in
     omega (arith, tree-constants gs m x s l (d + 1) (b .0), tree-constants gs m x s r (d + 1) (b .1))
 
--- how often a gate is wanted: once or not at all, and a gate that is not wanted is of kind 2
+-- how often a gate is wanted: once or not at all, and not at all where it is of kind 2 and not the only one
 pub wanted-few : (gs : List ℕ) (m g : ℕ) → wanted gs m g ≤ 1
 unfolding wanted
 wanted-few gs m g = by (eqb m 1) (eqb (kindOf gs g) 2)
@@ -263,18 +263,18 @@ wanted-few gs m g = by (eqb m 1) (eqb (kindOf gs g) 2)
     by false true = omega arith
     by false false = omega arith
 
-unwanted-kind : (gs : List ℕ) (m g : ℕ) → wanted gs m g ≡ 0 → kindOf gs g ≡ 2
+pub unwanted : (gs : List ℕ) (m g : ℕ) → (wanted gs m g ≡ 0) ↔ ((m ≢ 1) × (kindOf gs g ≡ 2))
 unfolding wanted
-unwanted-kind gs m g e = by (eqb m 1) (eqb (kindOf gs g) 2) refl e
+unwanted gs m g = (by (eqb m 1) (eqb (kindOf gs g) 2) refl refl, λ k. rw (ne-eqb m 1 (k .0), eq-eqb (kindOf gs g) 2 (k .1)) refl)
   where
-    by : (s t : Bool) → eqb (kindOf gs g) 2 ≡ t → _≡_ {A = ℕ} (pick s 1 (pick t 0 1)) 0 → kindOf gs g ≡ 2
-    by true t k z = absurd (omega arith)
-    by false true k z = eqb-true (kindOf gs g) 2 k
-    by false false k z = absurd (omega arith)
+    by : (s t : Bool) → eqb m 1 ≡ s → eqb (kindOf gs g) 2 ≡ t → _≡_ {A = ℕ} (pick s 1 (pick t 0 1)) 0 → (m ≢ 1) × (kindOf gs g ≡ 2)
+    by true t l k z = absurd (omega arith)
+    by false true l k z = (eqb-false m 1 l, eqb-true (kindOf gs g) 2 k)
+    by false false l k z = absurd (omega arith)
 
 pub unwanted-bare : (x : ℕ) (gs : List ℕ) (m g : ℕ) → recordsNumber m gs 0 ≡ 0 → g < m → wanted gs m g ≡ 0 → constantsOf x gs g ≡ 0
 unfolding constantsOf
 unwanted-bare x gs m g e h w =
-    let k = unwanted-kind gs m g w in
+    let k = unwanted gs m g .0 w .1 in
     let z = subst (λ (y : ℕ). recordNumber y (degreeOf gs g) (constantsWord gs g) ≡ 0) k (records-each gs m 0 e g (omega arith) (omega arith)) in
     rw (ne-eqb (kindOf gs g) 3 (omega arith)) (marker-bare (degreeOf gs g) (constantsWord gs g) z)

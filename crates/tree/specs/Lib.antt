@@ -4,6 +4,7 @@ pub mod Selection
 pub mod Plan
 pub mod PlanLaws
 pub mod SoundLaws
+pub mod SelectorLaws
 pub mod Offers
 pub mod Layout
 pub mod Walks

@@ -1,6 +1,6 @@
 -- What a plan that passes 19 gives the layers above: the ranges of its numbers, its paths, its gates' constants, and what it answers of them.
 --
--- Main definitions: `Sound`, `GateWords`. Main statements: `sound`, `selector-known`, `only-placed`, `path-kept`, `path-answers`, `gate-words`, `placed-parted`, `dropped-bare`.
+-- Main definitions: `Sound`, `GateWords`. Main statements: `sound`, `selector-known`, `path-kept`, `path-answers`, `gate-words`, `placed-parted`, `dropped-bare`.
 use Prim.Native.Nat.{_*_, _+_, _<_, _≤_, ℕ}
 use borrow.Author.Tests.{eq-eqb, le-ltb, lt-ltb, ltb-false, ltb-true}
 use lib.Dec.{ltb}
@@ -24,13 +24,13 @@ use Rattle.labels.specs.RangesLaws.{Ranges, ranges-fit}
 use Rattle.selector.specs.Gates.{gateWords}
 use Rattle.selector.specs.Inner.{Sound as Records}
 use Rattle.selector.specs.MadeUp.{wanted}
-use Rattle.selector.specs.MadeUpLaws.{Sturdy, tree-constants, unwanted-bare, wanted-few}
+use Rattle.selector.specs.MadeUpLaws.{Sturdy, tree-constants, unwanted-bare}
 use Rattle.selector.specs.Nodes.{mostLevels, treeAt}
-use Rattle.selector.specs.PathLaws.{Parted, bits-digits, only-path, path-cases, path-digits, path-fits, path-none, path-some, pathless, paths-parted, selected-steps, unlisted-path}
+use Rattle.selector.specs.PathLaws.{Parted, bits-digits, path-cases, path-digits, path-fits, path-none, path-some, pathless, paths-parted, selected-steps, unlisted-path}
 use Rattle.selector.specs.Paths.{Selector, aPath, noSelector, orEmpty, pathOf, pathTo, selected, steps, unknownGate}
 use Rattle.selector.specs.RecordLaws.{gates-sound}
 use Rattle.selector.specs.Refusals.{gatesNumber, recordsNumber}
-use Rattle.selector.specs.Tree.{Tree, standing}
+use Rattle.selector.specs.Tree.{Tree}
 use Rattle.parameters.specs.Lookup.{modeOf, widthOf}
 use Rattle.parameters.specs.Parameters.{flagNumber, parametersNumber, rangeNumber}
 use Rattle.parameters.specs.ParametersLaws.{InRange, in-range}
@@ -171,13 +171,6 @@ module _ (q : Plan) (e : planFault q ≡ 0) where
       by : (b : Bool) → selectionBare (selectionOf (pick b (aPath (planPath q g)) noSelector)) ≡ pick b 0 1
       by true = refl
       by false = refl
-
-  -- "A lone gate still has an empty path", and so has the only placed gate of a longer list
-  pub only-placed : (g : ℕ) → g < many → planPlaced q g ≡ true → ((h : ℕ) → h < many → h ≢ g → planPlaced q h ≡ false) → planSelector q g ≡ aPath []
-  only-placed g h w others =
-      let one : standing g (nodes .tree) ≡ 1 = omega (arith, nodes .once g h, ltb-true 0 (wanted words many g) w, wanted-few words many g) in
-      let empty = only-path many (nodes .tree) g (nodes .listed) one (λ k l n. nodes .once k l ∙ omega (arith, ltb-false 0 (wanted words many k) (others k l n))) in
-      rw (lt-ltb g many h, nodes .is, empty) refl
 
   -- the answer for all gates
   rows-are : gateRowsAnswer q ≡ gateRowsOf q
