@@ -18,11 +18,10 @@ use Rattle.selector.specs.Nodes.{mostLevels, nodeSlots, nodeWords, treeAt}
 use Rattle.selector.specs.Paths.{Selector, aPath, noSelector, pathTo, unknownGate}
 use Rattle.selector.specs.Refusals.{constantsNumber, gatesNumber, kindsNumber, lookupNumber, recordNumber, recordsNumber, someKind, wordsFit}
 use Rattle.selector.specs.Search.{constantsOver, degreeOver, firstBound, firstTarget, mayStand, planTree, searchTree, treeWithin}
-use Rattle.selector.specs.Tree.{Tree, grown, leaf, offer, offerAll}
+use Rattle.selector.specs.Tree.{grown, leaf, offer, offerAll}
 use Rattle.parameters.specs.Parameters.{flagNumber, lookupOf, parametersNumber, rangeNumber}
 use Rattle.parameters.specs.declared.lookup.LookupParameters.the-variants.{NoLookup}
-use Rattle.parameters.specs.declared.parameters.Parameters.{Parameters}
-use Rattle.tree.specs.Plan.{pathAnswer, planFault, planNumber, planSelection, planSelector, planned, selectorAmong, wordsNumber}
+use Rattle.tree.specs.Plan.{pathAnswer, planFault, planNumber, planSelector, planned, selectorAmong, wordsNumber}
 use Rattle.tree.specs.PlanLaws.{planned-fault}
 use Rattle.tree.specs.Selection.{selectionNumber, selectionOf}
 use Rattle.tree.specs.declared.plan.Plan.{Plan}

@@ -1,13 +1,13 @@
--- 01's worked circuits P5, P6 and P10, and its runs of 64 and 65 gates, by computation.
+-- 01's worked circuits P5, P6 and P10, its runs of 64 and 65 gates, and a gate without selector, by computation.
 --
--- Main statements: `p5`, `p6`, `p10`, `sixty-four`.
+-- Main statements: `p5`, `p6`, `p10`, `one-placed`, `sixty-four`.
 use Prim.Native.Nat.{_-_, suc, zero, ℕ}
 use mathlib.Core.List.{List, [], _∷_}
 use mathlib.Core.Option.{Option, none, some}
 use mathlib.Core.Path.{_≡_, refl}
 use Rattle.base.specs.Exponent.{exponentFrom}
 use Rattle.selector.specs.Gates.{comesBefore, constantsOf, degreeAt, greatest, inserted, placedFrom, placedGates, sorted}
-use Rattle.selector.specs.Paths.{pathOf, pathTo}
+use Rattle.selector.specs.Paths.{Selector, aPath, noSelector, pathTo, selected}
 use Rattle.selector.specs.Search.{constantsOver, degreeOver, firstBound, firstTarget, mayStand, planTree, searchTree, targets, treeD, treeF, treeK, treeWithin}
 use Rattle.selector.specs.Tree.{Tree, fork, grown, leaf, offer, offerAll, size}
 
@@ -16,28 +16,33 @@ pub p5 : (degreeAt (3 ∷ 0 ∷ 0 ∷ []) 0 0 ≡ 2) × (degreeAt (3 ∷ 0 ∷ 0
 unfolding degreeAt
 p5 = (refl, refl, refl)
 
--- the paths of the gates from g on, as many as the list has
-unfoldable pub pathsFrom : ℕ → List (List ℕ) → Tree → List (List ℕ)
-pathsFrom g [] t = []
-pathsFrom g (p ∷ ps) t = pathOf g t ∷ pathsFrom (suc g) ps t
+-- what is answered of the gates from g on, as many as the list has
+unfoldable pub selectorsFrom : ℕ → List Selector → Tree → List Selector
+selectorsFrom g [] t = []
+selectorsFrom g (s ∷ ss) t = selected (pathTo g t) ∷ selectorsFrom (suc g) ss t
 
--- what a circuit's tree, D, K, F and paths are
-pub record Planning (gs : List ℕ) (m : ℕ) (t : Tree) (d k f : ℕ) (paths : List (List ℕ)) : Type 0 where
+-- what a circuit's tree, D, K and F are, and what is answered of its gates
+pub record Planning (gs : List ℕ) (m : ℕ) (t : Tree) (d k f : ℕ) (selectors : List Selector) : Type 0 where
   pub tree : planTree 0 gs m ≡ some t
   pub degree : treeD gs t ≡ d
   pub constants : treeK 0 gs t ≡ k
   pub divisor : treeF gs t ≡ f
-  pub ways : pathsFrom 0 paths t ≡ paths
+  pub ways : selectorsFrom 0 selectors t ≡ selectors
 
 -- P6 gates (0,2,1), (0,1,0), (1,0,0), A=1: paths 1, 01, 00; D=3, K=2, F=2
-pub p6 : Planning (0 ∷ 2 ∷ 1 ∷ 0 ∷ 1 ∷ 0 ∷ 1 ∷ 0 ∷ 0 ∷ []) 3 (fork (leaf 0) (fork (leaf 1) (leaf 2))) 3 2 2 ((1 ∷ []) ∷ (0 ∷ 1 ∷ []) ∷ (0 ∷ 0 ∷ []) ∷ [])
-unfolding constantsOf degreeAt placedFrom comesBefore inserted sorted greatest exponentFrom offer offerAll grown mayStand firstBound firstTarget treeWithin searchTree planTree degreeOver constantsOver pathTo pathsFrom
+pub p6 : Planning (0 ∷ 2 ∷ 1 ∷ 0 ∷ 1 ∷ 0 ∷ 1 ∷ 0 ∷ 0 ∷ []) 3 (fork (leaf 0) (fork (leaf 1) (leaf 2))) 3 2 2 (aPath (1 ∷ []) ∷ aPath (0 ∷ 1 ∷ []) ∷ aPath (0 ∷ 0 ∷ []) ∷ [])
+unfolding constantsOf degreeAt placedFrom comesBefore inserted sorted greatest exponentFrom offer offerAll grown mayStand firstBound firstTarget treeWithin searchTree planTree degreeOver constantsOver pathTo selectorsFrom
 p6 = record { tree = refl; degree = refl; constants = refl; divisor = refl; ways = refl }
 
 -- P10 one Nop: D=0, K=0, F=1
-pub p10 : Planning (1 ∷ 0 ∷ 0 ∷ []) 1 (leaf 0) 0 0 1 ([] ∷ [])
-unfolding constantsOf degreeAt exponentFrom planTree degreeOver constantsOver pathTo pathsFrom
+pub p10 : Planning (1 ∷ 0 ∷ 0 ∷ []) 1 (leaf 0) 0 0 1 (aPath [] ∷ [])
+unfolding constantsOf degreeAt exponentFrom planTree degreeOver constantsOver pathTo selectorsFrom
 p10 = record { tree = refl; degree = refl; constants = refl; divisor = refl; ways = refl }
+
+-- 02, Change 2: (0,64,0), (2,0,0): an empty path, and no selector
+pub one-placed : Planning (0 ∷ 64 ∷ 0 ∷ 2 ∷ 0 ∷ 0 ∷ []) 2 (leaf 0) 64 0 64 (aPath [] ∷ noSelector ∷ [])
+unfolding constantsOf degreeAt placedFrom comesBefore inserted sorted greatest exponentFrom offer offerAll grown mayStand firstBound firstTarget treeWithin searchTree planTree degreeOver constantsOver pathTo selectorsFrom
+one-placed = record { tree = refl; degree = refl; constants = refl; divisor = refl; ways = refl }
 
 -- "64 gates (0,2,0) placed at target 8; 65 give 8": no tree at half that target, and none at all for 65
 unfoldable pub alike : ℕ → List ℕ

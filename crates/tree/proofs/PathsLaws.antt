@@ -2,7 +2,7 @@
 --
 -- Main statements: `halves`; `seek-leaf`, `seek-left`, `seek-right`, `seek-neither`; `place-leaf`, `place-past`, `place-fork`, `placed-read`.
 use Prim.Native.Nat.{_*_, _+_, _-_, _<_, _^_, _≤_, suc, zero, ℕ}
-use borrow.Author.Tests.{eq-eqb, le-ltb, lt-ltb, ltb-true, ne-eqb}
+use borrow.Author.Tests.{eq-eqb, le-ltb, lt-ltb, ne-eqb}
 use lib.Dec.{eqb, ltb}
 use lib.ListN.{getD, length, length-set, set}
 use lib.Seq.{getD-set-other, getD-set-same}
@@ -15,8 +15,7 @@ use native.Mathlib.Decide.{ℕ-discrete}
 use native.Mathlib.Nat.{one-le-pow, pow-le-pow-right}
 use native.Mathlib.Numerals.{add-one}
 use native.Mathlib.Omega.{arith}
-use Rattle.base.specs.Pick.{both-true, pick}
-use Rattle.selector.specs.MadeUp.{allListed}
+use Rattle.base.specs.Pick.{pick}
 use Rattle.selector.specs.NodeLaws.{at-fork, at-leaf}
 use Rattle.selector.specs.Nodes.{bothSides, gateAt, leftAt, mostLevels, rightAt, treeAt}
 use Rattle.selector.specs.Paths.{bitsOf, pathTo, turned}

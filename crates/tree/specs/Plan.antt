@@ -5,7 +5,7 @@ use Prim.Native.Nat.{_*_, ℕ}
 use lib.Dec.{eqb, leb, ltb}
 use lib.ListN.{drop, length, replicate, take}
 use mathlib.Core.Bool.{Bool}
-use mathlib.Core.List.{List, [], _++_}
+use mathlib.Core.List.{List, _++_}
 use mathlib.Core.Option.{Option, none, some}
 use Rattle.base.specs.Firsts.{orNumber}
 use Rattle.base.specs.Pick.{pick}

@@ -3,7 +3,6 @@
 -- Main statements: `no-selector`, `only-placed`, `lone-empty`.
 use Prim.Native.Nat.{_<_, ℕ}
 use borrow.Author.Tests.{eq-eqb, lt-ltb, ltb-false, ltb-true}
-use lib.Dec.{ltb}
 use mathlib.Core.Bool.{Bool, false, true}
 use mathlib.Core.List.{List, []}
 use mathlib.Core.Logic.{_↔_, _≢_}
@@ -14,7 +13,7 @@ use Rattle.selector.specs.Gates.{kindOf}
 use Rattle.selector.specs.MadeUp.{wanted}
 use Rattle.selector.specs.MadeUpLaws.{Sturdy, unwanted, wanted-few}
 use Rattle.selector.specs.PathLaws.{only-path}
-use Rattle.selector.specs.Paths.{Selector, aPath, noSelector}
+use Rattle.selector.specs.Paths.{aPath, noSelector}
 use Rattle.selector.specs.Tree.{standing}
 use Rattle.tree.specs.Plan.{gatesGiven, planExtra, planFault, planPath, planPlaced, planSelector}
 use Rattle.tree.specs.PlanLaws.{fault-none}

@@ -1,7 +1,7 @@
 // Plans: the test for a made-up plan, paths, what rows need of the gates, and the table-id index, each of a plan's parts, which are lent; the same of a plan by value.
 ghost use mathlib.Core.Path.{_≡_};
 ghost use mathlib.Core.Option.{some};
-ghost use Prim.Native.Nat.{ℕ, _≤_, _<_};
+ghost use Prim.Native.Nat.{_≤_, _<_};
 ghost use lib.ListN.{length};
 ghost use Rattle.parameters.specs.Lookup.{flagOf};
 ghost use Rattle.selector.specs.Tree.{Tree};

@@ -12,12 +12,6 @@ use Rattle.report.specs.Report.{newline, pathName, selectorField}
 use borrow.Author.Needs.{needs}
 use Rattle.report.proofs.lines.put_path.Statement.{statement}
 use Rattle.report.proofs.lines.put_path.Tie as tie
-use Rattle.report.proofs.lines.put_path.Reads as reads
-use Rattle.report.proofs.lines.put_path.Lts as lts
-use Rattle.bytes.proofs.text.put_bytes.Reads as put-bytes-reads
-use Rattle.bytes.proofs.text.put_field.Reads as put-field-reads
-use Rattle.report.proofs.lines.put_steps.Reads as put-selection-reads
-use Rattle.tree.proofs.plan.Plan.path.Reads as path-reads
 
 path-requires : tie.Need-path-requires
 path-requires c κs = search needs

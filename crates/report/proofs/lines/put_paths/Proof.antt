@@ -2,20 +2,15 @@
 -- Assumes nothing.
 use borrow.Author.Needs.{needs}
 use mathlib.Core.Path.{_≡_, refl, sym, ap, _∙_}
-use mathlib.Core.List.{List, [], _∷_, _++_}
 use native.Mathlib.Omega.{arith}
-use Rattle.bytes.specs.Text.{Sink, sink, put, field, fields}
-use Rattle.bytes.specs.TextLaws.{then}
-use Prim.Native.Nat.{ℕ, suc, _+_, _-_, _*_, _/_, _%_, _<_, _≤_}
-use lib.ListN.{length, getD, take, drop}
+use Rattle.bytes.specs.Text.{sink, put}
+use Prim.Native.Nat.{ℕ, _-_}
+use lib.ListN.{length}
 use Rattle.tree.specs.Plan.{planSelector}
 use Rattle.report.specs.Report.{pathLines}
 use Rattle.report.specs.ReportLaws.{paths-turn, paths-done}
 use Rattle.report.proofs.lines.put_paths.Statement.{statement}
 use Rattle.report.proofs.lines.put_paths.Tie as tie
-use Rattle.report.proofs.lines.put_paths.Reads as reads
-use Rattle.report.proofs.lines.put_paths.Lts as lts
-use Rattle.report.proofs.lines.put_path.Reads as put-path-reads
 
 abbrev Inv-loop : tie.InvT-loop
 Inv-loop plan at out₀ place₀ gate₀ out place gate = (length out ≡ length out₀) × (put (sink out₀ at) (pathLines (planSelector plan) 0 (plan .«gate_count»)) ≡ put (sink out place) (pathLines (planSelector plan) gate (plan .«gate_count» - gate)))

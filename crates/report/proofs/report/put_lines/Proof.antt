@@ -1,11 +1,11 @@
 -- `report::report::put_lines` meets its contract: one part after the other.
 -- Assumes nothing.
-use mathlib.Core.Path.{_≡_, refl, sym, ap, _∙_}
-use mathlib.Core.List.{List, [], _∷_, _++_}
+use mathlib.Core.Path.{_≡_, ap, _∙_}
+use mathlib.Core.List.{_++_}
 use native.Mathlib.Omega.{arith}
-use Rattle.bytes.specs.Text.{Sink, sink, put, field, fields}
+use Rattle.bytes.specs.Text.{sink, put}
 use Rattle.bytes.specs.TextLaws.{then}
-use Prim.Native.Nat.{ℕ, _+_, _*_, _≤_}
+use Prim.Native.Nat.{ℕ, _+_, _≤_}
 use lib.ListN.{length}
 use Rattle.pieces.specs.Setting.{constantRoom, copyRoom, tableRoom}
 use Rattle.columns.specs.Intake.{settingOf}
@@ -16,13 +16,6 @@ use Rattle.report.specs.ReportLaws.{all-there, table-room, few-tables}
 use borrow.Author.Needs.{needs}
 use Rattle.report.proofs.report.put_lines.Statement.{statement}
 use Rattle.report.proofs.report.put_lines.Tie as tie
-use Rattle.report.proofs.report.put_lines.Reads as reads
-use Rattle.report.proofs.report.put_lines.Lts as lts
-use Rattle.report.proofs.lines.put_columns.Reads as put-columns-reads
-use Rattle.report.proofs.lines.put_ids.Reads as put-ids-reads
-use Rattle.report.proofs.lines.put_paths.Reads as put-paths-reads
-use Rattle.report.proofs.lines.put_plan.Reads as put-plan-reads
-use Rattle.report.proofs.report.table_columns.Reads as table-columns-reads
 
 -- the plan is sound
 fine : (s : tie.Start) → Sound (s .args .plan)
