@@ -1,6 +1,6 @@
 -- What a plan's nodes that pass the test are known to have, and that planning's own nodes pass it.
 --
--- Main definition: `Sturdy`. Main statements: `sturdy`, `own-passes`, `links`, `tree-constants` (K is small), `unwanted-bare` (a dropped gate has no constants).
+-- Main definition: `Sturdy`. Main statements: `sturdy`, `own-passes`, `links`, `tree-constants` (K is small), `unwanted` (which gates are dropped), `unwanted-bare` (they have no constants).
 use Prim.Native.Nat.{_*_, _+_, _-_, _<_, _≤_, suc, zero, ℕ}
 use borrow.Author.Tests.{eq-eqb, eqb-false, eqb-true, le-leb, leb-true, lt-ltb, ltb-true, ne-eqb}
 use lib.Dec.{eqb, leb, ltb}
