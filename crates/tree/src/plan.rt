@@ -188,10 +188,11 @@ fn selection_in(nodes: &[u64], count: usize, many: u64, gate: u64) -> Selection
         return Selection::UnknownGate;
     }
     let found = output_placement(nodes, count, 0, gate, MOST_LEVELS);
+    let length = found.length;
     if found.found {
         return Selection::Path {
             bits: found.bits,
-            length: found.length,
+            length: length,
         };
     }
     Selection::NoSelector
