@@ -220,7 +220,7 @@ fn main() {
     let made_up = bytes::words::word_at(bytes, 3);
     let records = Replay::new().step().step().step().step();
     let all = replay_made_up_plans(bytes, replay_plans(bytes, records, plans), made_up);
-    let version = all.note(bytes::words::word_at(bytes, 0) == 1);
+    let version = all.note(bytes::words::word_at(bytes, 0) == 2);
     let s = version
         .note(length / 8 == all.at as usize)
         .note(length % 8 == 0);

@@ -1,10 +1,12 @@
 //! Plans, paths and table-id indexes: the original's where the plan is accepted, the
 //! model's refusals; then made-up plans with the model's answer.
-use super::VERSION;
 use crate::circuit::Circuit;
 use crate::made_up::{balanced_65, chain, parameters};
 use crate::random::Random;
 use model::plan::Plan;
+
+/// 2 since a gate has a third word.
+const VERSION: u64 = 2;
 
 type Request = ([u64; 8], Vec<u64>);
 
