@@ -2,7 +2,7 @@
 --
 -- Main definition: `DistinctLabels` (below p, nonzero, pairwise distinct).
 -- Main statements: `distinct-labels`, for any list of representatives that are `Cosets` of base; `search-cosets` (01's search gives such a
--- list); for the words that `labelsWritten` puts down: `written-is`, `written-refused`.
+-- list); `powers-beside`, `taken-enough` (what is handed back beside it); for the words that `labelsWritten` puts down: `written-is`, `written-refused`.
 use mathlib.Core.Path.{_≡_, sym, ap, _∙_, subst}
 use mathlib.Core.Logic.{_≢_}
 use mathlib.Core.Bool.{true}
@@ -19,13 +19,13 @@ use Rattle.base.specs.Tables.{table}
 use Rattle.base.specs.Modular.{mul-mod}
 use Rattle.base.specs.Roots.{Root}
 use Rattle.base.specs.Cosets.{Cosets, coset-apart, coset-nonzero}
-use Rattle.field.specs.Field.{p, fpow}
+use Rattle.field.specs.Field.{p, fpow, isNonResidue}
 use Rattle.field.specs.FieldLaws.{domain-root, fmul-below}
 use Rattle.labels.specs.Refusals.{outOfRange, candidatesReachP}
 use Rattle.labels.specs.Ranges.{rangesFit, mostColumns}
 use Rattle.labels.specs.RangesLaws.{Ranges, ranges-fit, some-row}
-use Rattle.labels.specs.Labels.{domainGenerator, found, searchNumber, columnWords, representativesNumber, representativesOf, labelOf, labelNumber, labelAnswer, fillNumber, labelsWritten}
-use Rattle.labels.specs.Search.{found-chosen}
+use Rattle.labels.specs.Labels.{domainGenerator, firstColumn, found, powersTaken, searchNumber, columnWords, representativesNumber, representativesOf, powersOf, takenOf, labelOf, labelNumber, labelAnswer, fillNumber, labelsWritten}
+use Rattle.labels.specs.Search.{search-taken, found-chosen}
 use Rattle.labels.specs.Filling.{generator-root}
 
 -- labels at the first m words of a list
@@ -94,16 +94,25 @@ pub record AcceptedSearch (n c : ℕ) : Type 0 where
   pub ranges : Ranges n c
   pub enough : c ≤ length (found n c .values)
   pub answer : representativesOf n c ≡ columnWords (found n c .values)
+  pub powers : powersOf n c ≡ columnWords (found n c .powers)
+  pub taken : takenOf n c ≡ powersTaken n c
 
 accepted-search : (n c : ℕ) → representativesNumber n c ≡ 0 → AcceptedSearch n c
-unfolding representativesNumber representativesOf
+unfolding representativesNumber representativesOf powersOf takenOf
 accepted-search n c z =
     let q = pick-zero (rangesFit n c) (searchNumber n c) outOfRange (omega arith) z in
     record {
       ranges = ranges-fit n c (q .0);
       enough = search-enough n c (q .1);
       answer = rw (eq-eqb (pick (rangesFit n c) (searchNumber n c) outOfRange) 0 z);
+      powers = rw (eq-eqb (pick (rangesFit n c) (searchNumber n c) outOfRange) 0 z);
+      taken = rw (eq-eqb (pick (rangesFit n c) (searchNumber n c) outOfRange) 0 z);
     }
+
+-- column 0 is there from the start, and every other column has cost a power
+found-taken : (n c : ℕ) → length (found n c .values) ≤ 1 + powersTaken n c
+unfolding found powersTaken
+found-taken n c = search-taken isNonResidue (λ k. fpow k n) (p - 2) c 2 firstColumn
 
 -- the word of a column that has one
 padded-at : (xs : List ℕ) (i : ℕ) → i < length xs → getD (columnWords xs) i 0 ≡ getD xs i 0
@@ -118,6 +127,19 @@ module _ (n c : ℕ) (z : representativesNumber n c ≡ 0) where
   -- column 0 has representative 1
   pub column-zero : getD (representativesOf n c) 0 0 ≡ 1
   column-zero = rep-at 0 (accepted-search n c z .ranges .some-column) ∙ found-chosen n c .first
+
+  -- 02, Change 3: beside each representative stands its N-th power
+  pub powers-beside : (i : ℕ) → i < c → getD (powersOf n c) i 0 ≡ fpow (getD (representativesOf n c) i 0) n
+  powers-beside i h =
+      let a = accepted-search n c z in
+      let f = found-chosen n c in
+      let l : i < length (found n c .values) = omega (arith, a .enough) in
+      ap (λ (w : List ℕ). getD w i 0) (a .powers) ∙ padded-at (found n c .powers) i (omega (arith, f .beside))
+      ∙ f .power i l ∙ ap (λ (x : ℕ). fpow x n) (sym (rep-at i h))
+
+  -- and no column but column 0 got its representative without a power that counts
+  pub taken-enough : c - 1 ≤ takenOf n c
+  taken-enough = let a = accepted-search n c z in omega (arith, a .enough, a .taken, found-taken n c)
 
   -- 01's rule gives representatives of different cosets
   pub search-cosets : Cosets p n c (columnRep (representativesOf n c))

@@ -1,7 +1,7 @@
 -- 01, 'Labels': the domain generator, the representatives of the columns, the labels of the cells, and the answers to who asks for them.
 --
--- Main definitions: `domainGenerator`; `Columns`, `tried`, `searchFrom`, `found` (the search); `representativesNumber`, `representativesOf`;
--- `labelOf`, `labelNumber`, `labelAnswer`; `fillNumber`, `labelsWritten`.
+-- Main definitions: `domainGenerator`; `Columns`, `tried`, `searchFrom`, `found` (the search); `takenOne`, `takenFrom`, `powersTaken` (how many N-th powers it takes);
+-- `representativesNumber`, `representativesOf`, `powersOf`, `takenOf`; `labelOf`, `labelNumber`, `labelAnswer`; `fillNumber`, `labelsWritten`.
 use mathlib.Core.Bool.{Bool, true, false}
 use mathlib.Core.List.{List, [], _∷_, _++_}
 use Prim.Native.Nat.{ℕ, zero, suc, _+_, _-_, _*_, _/_, _%_}
@@ -55,6 +55,21 @@ searchFrom test power (suc fuel) c k s =
 unfoldable pub found : ℕ → ℕ → Columns
 found n c = searchFrom isNonResidue (λ k. fpow k n) (p - 2) c 2 firstColumn
 
+-- 02, Change 3: "the number of N-th powers taken: one for each non-residue tried", kept or not
+abbrev pub takenOne : (ℕ → Bool) → ℕ → ℕ
+takenOne test k = pick (test k) 1 0
+
+-- as many as the search takes from the candidate k on
+unfoldable pub takenFrom : (ℕ → Bool) → (ℕ → ℕ) → ℕ → ℕ → ℕ → Columns → ℕ
+takenFrom test power zero c k s = 0
+takenFrom test power (suc fuel) c k s =
+    let more = takenFrom test power fuel c (suc k) (tried test power k s) in
+    pick (ltb (length (s .values)) c) (takenOne test k + more) 0
+
+-- as many as the whole search takes; column 0's, which is 1, is not among them
+unfoldable pub powersTaken : ℕ → ℕ → ℕ
+powersTaken n c = takenFrom isNonResidue (λ k. fpow k n) (p - 2) c 2 firstColumn
+
 -- "9 candidates reach p."
 unfoldable pub searchNumber : ℕ → ℕ → ℕ
 searchNumber n c = pick (ltb (length (found n c .values)) c) candidatesReachP 0
@@ -70,6 +85,14 @@ representativesNumber n c = pick (rangesFit n c) (searchNumber n c) outOfRange
 -- "The answer is then zeros": `mostColumns` words, the representatives of columns 0 to c - 1 and then zeros
 unfoldable pub representativesOf : ℕ → ℕ → List ℕ
 representativesOf n c = pick (eqb (representativesNumber n c) 0) (columnWords (found n c .values)) (replicate mostColumns 0)
+
+-- 02, Change 3: "each representative's N-th power beside it"; zeros after a refusal, as the representatives are
+unfoldable pub powersOf : ℕ → ℕ → List ℕ
+powersOf n c = pick (eqb (representativesNumber n c) 0) (columnWords (found n c .powers)) (replicate mostColumns 0)
+
+-- "with the number of N-th powers taken"; 0 after a refusal
+unfoldable pub takenOf : ℕ → ℕ → ℕ
+takenOf n c = pick (eqb (representativesNumber n c) 0) (powersTaken n c) 0
 
 -- "The label of cell (c, r) is its column's representative times w^r", for any list of representatives. A cell is the number cN+r.
 unfoldable pub labelOf : ℕ → List ℕ → ℕ → ℕ

@@ -1,7 +1,8 @@
 -- The search for representatives, for its proofs: its equations, how the code holds the columns found so far, and what is known of them.
 --
--- Main definitions: `stored` (the columns in arrays of `mostColumns`), `Chosen` (what the search keeps true).
--- Main statements: `search-stop`, `search-next`; `tried-kept`, `tried-residue`, `tried-coset`; `absent-apart`; `search-chosen`, `found-chosen`.
+-- Main definitions: `stored` (the columns in arrays of `mostColumns`), `noRepresentatives`, `Chosen` (what the search keeps true).
+-- Main statements: `search-stop`, `search-next`; `tried-kept`, `tried-residue`, `tried-coset`; `taken-stop`, `taken-next`, `search-taken` (no column without a power taken);
+-- `absent-apart`; `search-chosen`, `found-chosen`.
 use mathlib.Core.Path.{_≡_, refl, sym, ap, _∙_}
 use mathlib.Core.Logic.{_≢_, _⊎_, inl, inr}
 use mathlib.Core.Bool.{Bool, true, false}
@@ -21,12 +22,17 @@ use Rattle.base.specs.Powers.{one-pow}
 use Rattle.field.specs.Field.{p, fpow, isNonResidue}
 use Rattle.field.specs.FieldLaws.{non-residue-unit}
 use Rattle.labels.specs.declared.NonResidues.{NonResidues}
+use Rattle.labels.specs.declared.RepresentativesAnswer.{RepresentativesAnswer}
 use Rattle.labels.specs.Ranges.{mostColumns}
-use Rattle.labels.specs.Labels.{Columns, kept, firstColumn, absent, tried, searchFrom, found, columnWords}
+use Rattle.labels.specs.Labels.{Columns, kept, firstColumn, absent, tried, searchFrom, found, takenOne, takenFrom, columnWords}
 
--- the columns as the code holds them
-abbrev pub stored : Columns → NonResidues
-stored s = record { kept = length (s .values); values = columnWords (s .values); powers = columnWords (s .powers) }
+-- the columns as the code holds them, with the number of N-th powers taken so far
+abbrev pub stored : Columns → ℕ → NonResidues
+stored s t = record { kept = length (s .values); values = columnWords (s .values); powers = columnWords (s .powers); taken = t }
+
+-- a refused answer
+abbrev pub noRepresentatives : ℕ → RepresentativesAnswer
+noRepresentatives number = record { number = number; values = replicate mostColumns 0; powers = replicate mostColumns 0; taken = 0 }
 
 -- one more word goes where the zeros begin
 pub padded-next : (xs : List ℕ) (x : ℕ) → length xs < mostColumns → set (columnWords xs) (length xs) x ≡ columnWords (xs ++ (x ∷ []))
@@ -35,13 +41,17 @@ padded-next xs x h =
     rw (e, length-append) (set-append-seam xs 0 (replicate (mostColumns - (length xs + 1)) 0) x ∙ sym (append-assoc xs (x ∷ []) (replicate (mostColumns - (length xs + 1)) 0)))
 
 -- what the code holds of the powers
-pub held-powers : (f : NonResidues) (s : Columns) → f ≡ stored s → length (s .powers) ≡ length (s .values) → take (f .kept) (f .powers) ≡ s .powers
-held-powers f s e b = rw e (take-at (s .powers) (replicate (mostColumns - length (s .powers)) 0) (length (s .values)) b)
+pub held-powers : (f : NonResidues) (s : Columns) (t : ℕ) → f ≡ stored s t → length (s .powers) ≡ length (s .values) → take (f .kept) (f .powers) ≡ s .powers
+held-powers f s t e b = rw e (take-at (s .powers) (replicate (mostColumns - length (s .powers)) 0) (length (s .values)) b)
 
--- the code's step: a store into each array, and the count
-pub held-next : (f : NonResidues) (s : Columns) (k q : ℕ) → f ≡ stored s → length (s .powers) ≡ length (s .values) → f .kept < mostColumns
-    → _≡_ {A = NonResidues} (record { kept = f .kept + 1; values = set (f .values) (f .kept) k; powers = set (f .powers) (f .kept) q }) (stored (kept s k q))
-held-next f s k q e b h =
+-- the code's steps: a power is taken; where it is kept, a store into each array, and the count of columns
+pub held-taken : (f : NonResidues) (s : Columns) (t : ℕ) → f ≡ stored s t
+    → _≡_ {A = NonResidues} (record { kept = f .kept; values = f .values; powers = f .powers; taken = f .taken + 1 }) (stored s (t + 1))
+held-taken f s t e = rw e
+
+pub held-next : (f : NonResidues) (s : Columns) (t k q : ℕ) → f ≡ stored s t → length (s .powers) ≡ length (s .values) → f .kept < mostColumns
+    → _≡_ {A = NonResidues} (record { kept = f .kept + 1; values = set (f .values) (f .kept) k; powers = set (f .powers) (f .kept) q; taken = f .taken + 1 }) (stored (kept s k q) (t + 1))
+held-next f s t k q e b h =
     let l : length (s .values) < mostColumns = rw e at h in
     let m : length (s .powers) < mostColumns = omega arith in
     rw (e, padded-next (s .values) k l, ← b, padded-next (s .powers) q m, length-append (s .values), b)
@@ -93,6 +103,43 @@ module _ (test : ℕ → Bool) (power : ℕ → ℕ) where
   unfolding searchFrom
   search-next zero c k s z h = absurd (omega arith)
   search-next (suc fuel) c k s z h = let e : suc fuel - 1 ≡ fuel = omega arith in rw (lt-ltb (length (s .values)) c h, e, add-one)
+
+  -- ---- the powers taken, beside the search
+  pub taken-stop : (fuel c k : ℕ) (s : Columns) → c ≤ length (s .values) → takenFrom test power fuel c k s ≡ 0
+  unfolding takenFrom
+  taken-stop zero c k s h = refl
+  taken-stop (suc fuel) c k s h = rw (le-ltb (length (s .values)) c h)
+
+  pub taken-out : (fuel c k : ℕ) (s : Columns) → fuel ≡ 0 → takenFrom test power fuel c k s ≡ 0
+  unfolding takenFrom
+  taken-out fuel c k s h = rw h
+
+  pub taken-next : (fuel c k : ℕ) (s : Columns) → 0 < fuel → length (s .values) < c
+      → takenFrom test power fuel c k s ≡ takenOne test k + takenFrom test power (fuel - 1) c (k + 1) (tried test power k s)
+  unfolding takenFrom
+  taken-next zero c k s z h = absurd (omega arith)
+  taken-next (suc fuel) c k s z h = let e : suc fuel - 1 ≡ fuel = omega arith in rw (lt-ltb (length (s .values)) c h, e, add-one)
+
+  -- a column that is found has cost a power
+  tried-taken : (k : ℕ) (s : Columns) → length (tried test power k s .values) ≤ length (s .values) + takenOne test k
+  tried-taken k s = go (test k) (absent (power k) (s .powers)) refl refl
+    where
+      go : (a b : Bool) → test k ≡ a → absent (power k) (s .powers) ≡ b → length (tried test power k s .values) ≤ length (s .values) + takenOne test k
+      go true true a b = rw (tried-kept k s a b, length-append, a) (omega arith)
+      go true false a b = rw (tried-coset k s a b) (omega arith)
+      go false b a e = rw (tried-residue k s a) (omega arith)
+
+  pub search-taken : (fuel c k : ℕ) (s : Columns) → length (searchFrom test power fuel c k s .values) ≤ length (s .values) + takenFrom test power fuel c k s
+  unfolding searchFrom takenFrom
+  search-taken zero c k s = omega arith
+  search-taken (suc fuel) c k s = go (ltb (length (s .values)) c) refl (search-taken fuel c (suc k) (tried test power k s))
+    where
+      go : (b : Bool) → ltb (length (s .values)) c ≡ b
+          → length (searchFrom test power fuel c (suc k) (tried test power k s) .values) ≤ length (tried test power k s .values) + takenFrom test power fuel c (suc k) (tried test power k s)
+          → length (pick (ltb (length (s .values)) c) (searchFrom test power fuel c (suc k) (tried test power k s)) s .values)
+          ≤ length (s .values) + pick (ltb (length (s .values)) c) (takenOne test k + takenFrom test power fuel c (suc k) (tried test power k s)) 0
+      go true e m = rw e (omega (arith, m, tried-taken k s))
+      go false e m = rw e (omega arith)
 
 -- a non-residue's power to p - 1 is 1
 unit-power : (k : ℕ) → isNonResidue k ≡ true → fpow k (p - 1) ≡ 1

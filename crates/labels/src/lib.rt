@@ -1,12 +1,12 @@
 // 01, 'Labels': the label of a cell is its column's representative times a power of the domain generator.
 ghost use mathlib.Core.Path.{_≡_};
-ghost use Prim.Native.Nat.{_+_, _*_, _≤_, _<_};
+ghost use Prim.Native.Nat.{ℕ, _+_, _*_, _≤_, _<_};
 ghost use lib.ListN.{length};
 ghost use Rattle.base.specs.Fills.{Filled};
-ghost use Rattle.field.specs.Field.{fpow, isNonResidue};
+ghost use Rattle.field.specs.Field.{p, fpow, isNonResidue};
 ghost use Rattle.labels.specs.Ranges.{rangesFit, mostColumns};
-ghost use Rattle.labels.specs.Labels.{Columns, domainGenerator, absent, tried, found, representativesNumber, representativesOf, labelOf, labelNumber, labelAnswer, fillNumber, labelsWritten};
-ghost use Rattle.labels.specs.Search.{stored};
+ghost use Rattle.labels.specs.Labels.{Columns, domainGenerator, absent, firstColumn, tried, found, takenOne, powersTaken, representativesNumber, representativesOf, powersOf, takenOf, labelOf, labelNumber, labelAnswer, fillNumber, labelsWritten};
+ghost use Rattle.labels.specs.Search.{stored, noRepresentatives};
 ghost use Rattle.labels.specs.Filling.{rootPower, scaledFrom, negatedFrom, HalfTurn, ColumnZero};
 
 // The refusal numbers of 01: N, C or a cell is out of range; the candidates reach p; a lent slice
@@ -68,21 +68,39 @@ fn is_absent(x: u64, words: &[u64]) -> bool
 }
 
 // The columns that have a representative, column 0 among them: the representatives, and beside
-// each its N-th power. The words past them are 0.
+// each its N-th power. The words past them are 0. Also the number of N-th powers taken so far.
 struct NonResidues {
     kept: u64,
     values: ColumnWords,
     powers: ColumnWords,
+    taken: u64,
 }
 
 impl NonResidues {
-    // The next column takes the candidate if it is a non-residue of a coset of its own.
+    // Column 0, whose representative is 1, and so is its power; no power was taken.
+    fn first_column() -> Self
+        ensures { λ r. ⌜ r ≡ stored firstColumn 0 ⌝ }
+    {
+        let mut first = NonResidues {
+            kept: 1,
+            values: [0; MOST_COLUMNS as usize],
+            powers: [0; MOST_COLUMNS as usize],
+            taken: 0,
+        };
+        first.values[0] = 1;
+        first.powers[0] = 1;
+        first
+    }
+
+    // The next column takes the candidate if it is a non-residue of a coset of its own. A non-residue's
+    // N-th power is taken once, here.
     fn try_candidate(mut self, n: u64, candidate: u64) -> Self
-        requires { ⌜ self .kept < mostColumns ⌝ }
-        ensures { λ r. ⌜ ((s : Columns) → self ≡ stored s → length (s .powers) ≡ length (s .values) → r ≡ stored (tried isNonResidue (λ k. fpow k n) candidate s)) ⌝ }
+        requires { ⌜ (self .kept < mostColumns) × (self .taken < p) ⌝ }
+        ensures { λ r. ⌜ ((s : Columns) (t : ℕ) → self ≡ stored s t → length (s .powers) ≡ length (s .values) → r ≡ stored (tried isNonResidue (λ k. fpow k n) candidate s) (t + takenOne isNonResidue candidate)) ⌝ }
     {
         if field::is_non_residue(candidate) {
             let power = field::pow(candidate, n);
+            self.taken = self.taken + 1;
             let kept = self.kept as usize;
             let powers = self.powers;
             if is_absent(power, &powers[..kept]) {
@@ -98,15 +116,9 @@ impl NonResidues {
 // The representatives of c columns, or of as many as the candidates below p give.
 fn make_non_residues(n: u64, c: u64) -> NonResidues
     requires { ⌜ c ≤ mostColumns ⌝ }
-    ensures { λ r. ⌜ r ≡ stored (found n c) ⌝ }
+    ensures { λ r. ⌜ r ≡ stored (found n c) (powersTaken n c) ⌝ }
 {
-    let mut found = NonResidues {
-        kept: 1,
-        values: [0; MOST_COLUMNS as usize],
-        powers: [0; MOST_COLUMNS as usize],
-    };
-    found.values[0] = 1;
-    found.powers[0] = 1;
+    let mut found = NonResidues::first_column();
     let mut candidate: u64 = 2;
     while candidate < field::P {
         if c <= found.kept {
@@ -118,34 +130,49 @@ fn make_non_residues(n: u64, c: u64) -> NonResidues
     found
 }
 
-// The representatives of columns 0 to C - 1, then zeros; number 1 or 9 is a refusal.
+// The representatives of columns 0 to C - 1, their N-th powers, and zeros past both; how many N-th
+// powers were taken, one for each non-residue tried. Number 1 or 9 is a refusal, and all else is
+// then 0.
 pub struct RepresentativesAnswer {
     pub number: u64,
     pub values: ColumnWords,
+    pub powers: ColumnWords,
+    pub taken: u64,
+}
+
+fn no_representatives(number: u64) -> RepresentativesAnswer
+    ensures { λ r. ⌜ r ≡ noRepresentatives number ⌝ }
+{
+    let none = [0; MOST_COLUMNS as usize];
+    RepresentativesAnswer {
+        number: number,
+        values: none,
+        powers: none,
+        taken: 0,
+    }
 }
 
 pub fn representatives(n: u64, c: u64) -> RepresentativesAnswer
     ensures { λ r. ⌜ r .number ≡ representativesNumber n c ⌝ }
     ensures { λ r. ⌜ r .values ≡ representativesOf n c ⌝ }
+    ensures { λ r. ⌜ r .powers ≡ powersOf n c ⌝ }
+    ensures { λ r. ⌜ r .taken ≡ takenOf n c ⌝ }
 {
     if ranges_fit(n, c) {
         let found = make_non_residues(n, c);
         if found.kept < c {
-            return RepresentativesAnswer {
-                number: CANDIDATES_REACH_P,
-                values: [0; MOST_COLUMNS as usize],
-            };
+            return no_representatives(CANDIDATES_REACH_P);
         }
         let values = found.values;
+        let powers = found.powers;
         return RepresentativesAnswer {
             number: 0,
             values: values,
+            powers: powers,
+            taken: found.taken,
         };
     }
-    RepresentativesAnswer {
-        number: OUT_OF_RANGE,
-        values: [0; MOST_COLUMNS as usize],
-    }
+    no_representatives(OUT_OF_RANGE)
 }
 
 // A label; number 1 or 9 is a refusal, and the value is then 0.

@@ -78,7 +78,7 @@ returns-2 c =
     let same = fill-number n (a .c) old (fits (room .before)) (room .if2 .taken) in
     let z : representativesNumber n (a .c) ≡ 0 = sym (g .0) ∙ found .if3 .left in
     let first = c .before .before .before .before .before .before .before .materialize-x-poly .ensures in
-    let rest = rw (g .1) at (c .before .before .materialize-x-by-non-residue-polys .ensures) in
+    let rest = rw (g .1 .0) at (c .before .before .materialize-x-by-non-residue-polys .ensures) in
     let whole = all-columns n (a .c) reps old _ _ (ranges (room .before) .some-column) (column-zero n (a .c) z) first rest in (
       sym (same ∙ z),
       filled-list (labelOf n reps) (a .c * n) old _ (room .if2 .taken) whole ∙ sym (written-is n (a .c) old (same ∙ z)),

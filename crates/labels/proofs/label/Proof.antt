@@ -84,7 +84,7 @@ returns-2 c =
     let w = c .before .pow .ensures ∙ ap (λ (x : ℕ). fpow x (a .cell % a .n)) (c .before .before .domain-generator-for-size .ensures) in (
       sym z,
       c .mul .ensures
-          ∙ ap (λ (l : List ℕ). fmul (getD l (a .cell / a .n) 0) (c .before .pow .result)) (g .1)
+          ∙ ap (λ (l : List ℕ). fmul (getD l (a .cell / a .n) 0) (c .before .pow .result)) (g .1 .0)
           ∙ ap (fmul (getD (representativesOf (a .n) (a .c)) (a .cell / a .n) 0)) w
           ∙ sym (label-accepted (a .n) (a .c) (a .cell) z),
     )

@@ -1,0 +1,11 @@
+-- `labels::no_representatives` meets its contract.
+-- Assumes nothing.
+use mathlib.Core.Path.{refl}
+use Rattle.labels.proofs.no_representatives.Statement.{statement}
+use Rattle.labels.proofs.no_representatives.Tie as tie
+
+returns : tie.Need-returns
+returns c = refl
+
+pub no-representatives-spec : {M : Type 1} → statement M
+no-representatives-spec = tie.close (tie.spec returns)
