@@ -1,14 +1,18 @@
 -- The definitions on numerals.
-use mathlib.Core.List.{List, [], _∷_}
+use lib.ListN.{replicate}
+use mathlib.Core.List.{List, [], _++_, _∷_}
 use mathlib.Core.Path.{_≡_, refl}
 use mathlib.Core.Option.{bind}
 use Prim.Native.Nat.{ℕ}
+use Rattle.base.specs.Exponent.{exponentFrom}
+use Rattle.labels.specs.Labels.{powersOf, representativesNumber, representativesOf, takenOf}
+use Rattle.labels.specs.Ranges.{rangesFit}
 use Rattle.calls.specs.Encoded.{callsFrom}
 use Rattle.listing.specs.Listing.{off, read, records, section, sixSections}
 use Rattle.pieces.specs.Setting.{Store}
 use Rattle.capi.specs.Calls.{ranOver}
 use Rattle.capi.specs.Listed.{runCall, runLeft, runPlan}
-use Rattle.capi.specs.Planning.{planCall, planLeft, withRoom}
+use Rattle.capi.specs.Planning.{planCall, planLeft, representativesCall, representativesLeft, withRoom}
 
 -- 19 before 10, and 10 before 12
 ranks : (withRoom 2 1 19 ≡ 19) × (withRoom 2 1 12 ≡ 10) × (withRoom 2 2 12 ≡ 12) × (withRoom 2 1 0 ≡ 10) × (withRoom 2 2 0 ≡ 0)
@@ -31,3 +35,8 @@ listings : (b : Store)
     → (runCall [] [] b ≡ 20) × (runCall (8 ∷ 1 ∷ 1 ∷ 0 ∷ 0 ∷ 0 ∷ 0 ∷ 0 ∷ 0 ∷ 0 ∷ 0 ∷ 0 ∷ 0 ∷ 0 ∷ []) (5 ∷ []) b ≡ 10) × (runPlan [] (5 ∷ []) b ≡ 5 ∷ []) × (runLeft [] [] b ≡ b)
 unfolding runCall runPlan runLeft read sixSections section records off bind
 listings b = (refl, refl, refl, refl)
+
+-- 128 words are too few for representatives; N = 3 leaves zeros, and the word behind them
+representatives : (representativesCall 2 5 (replicate 128 7) ≡ 10) × (representativesCall 3 5 (replicate 130 7) ≡ 1) × (representativesLeft 3 5 (replicate 130 7) ≡ replicate 129 0 ++ (7 ∷ []))
+unfolding representativesCall representativesLeft representativesNumber representativesOf powersOf takenOf rangesFit exponentFrom
+representatives = (refl, refl, refl)

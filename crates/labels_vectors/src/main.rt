@@ -1,23 +1,31 @@
 // Replays recorded representatives and labels (standard input: the words of labels.words) and
 // writes how many records and words were compared, and how many differed.
+use labels::ColumnWords;
 use libc::STDOUT_FILENO;
 use replay::Replay;
 
-// The representatives of a record: C words, and zeros in the slots past them.
-fn replay_representatives(bytes: &[u8], start: Replay, n: u64, c: u64) -> Replay {
-    let answer = labels::representatives(n, c);
-    let values = answer.values;
-    let mut s = start.note(answer.number == 0);
+// A word for each of c columns as recorded, and zeros in the slots past them.
+fn replay_columns(bytes: &[u8], start: Replay, c: u64, words: &ColumnWords) -> Replay {
+    let mut s = start;
     let mut i: usize = 0;
     while i < 64 {
         if (i as u64) < c {
-            s = s.expect(bytes, values[i]);
+            s = s.expect(bytes, words[i]);
         } else {
-            s = s.note(values[i] == 0);
+            s = s.note(words[i] == 0);
         }
         i += 1;
     }
     s
+}
+
+// The representatives of a record, then their powers, then how many powers were taken.
+fn replay_representatives(bytes: &[u8], start: Replay, n: u64, c: u64) -> Replay {
+    let answer = labels::representatives(n, c);
+    let values = answer.values;
+    let powers = answer.powers;
+    let s = replay_columns(bytes, start.note(answer.number == 0), c, &values);
+    replay_columns(bytes, s, c, &powers).expect(bytes, answer.taken)
 }
 
 // The word of a filled buffer at a cell, where the columns fit into the buffer.
@@ -59,6 +67,19 @@ fn replay_accepted(bytes: &[u8], start: Replay) -> Replay {
     replay_labels(bytes, replay_representatives(bytes, s.step(), n, c), n, c)
 }
 
+// The representatives' number as recorded; where it is a refusal, all else is 0.
+fn replay_refusal(bytes: &[u8], start: Replay, n: u64, c: u64) -> Replay {
+    let answer = labels::representatives(n, c);
+    let s = start.expect(bytes, answer.number);
+    if answer.number == 0 {
+        return s;
+    }
+    let values = answer.values;
+    let powers = answer.powers;
+    let t = replay_columns(bytes, s.note(answer.taken == 0), 0, &values);
+    replay_columns(bytes, t, 0, &powers)
+}
+
 // A refusal: the numbers of the label and of the representatives, and the label 0.
 fn replay_refused(bytes: &[u8], start: Replay) -> Replay {
     let n = start.word(bytes);
@@ -69,7 +90,7 @@ fn replay_refused(bytes: &[u8], start: Replay) -> Replay {
     let u = t.step()
         .expect(bytes, answer.number)
         .note(answer.value == 0);
-    u.expect(bytes, labels::representatives(n, c).number)
+    replay_refusal(bytes, u, n, c)
 }
 
 fn replay_accepted_records(bytes: &[u8], start: Replay, count: u64) -> Replay {
@@ -107,7 +128,7 @@ fn main() {
     let records = Replay::new().step().step().step().step();
     let taken = replay_accepted_records(bytes, records, accepted);
     let all = replay_refused_records(bytes, taken, refused);
-    let version = all.note(bytes::words::word_at(bytes, 0) == 1);
+    let version = all.note(bytes::words::word_at(bytes, 0) == 2);
     let s = version
         .note(length / 8 == all.at as usize)
         .note(length % 8 == 0);
