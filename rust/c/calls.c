@@ -1,6 +1,6 @@
 /* What the header promises beside the proofs: its macros are what the functions answer; NULL may be
- * passed with length 0 wherever a pointer is; paths and padding write what it says and nothing else;
- * every call runs in a thread with the stack that the header names.
+ * passed with length 0 wherever a pointer is; paths, representatives and padding write what it says
+ * and nothing else; every call runs in a thread with the stack that the header names.
  *
  *   calls [BYTES]     the thread's stack; KINCHOYU_STACK_BYTES if not given
  */
@@ -61,6 +61,7 @@ static void null_where_the_length_is_0(void)
     ANSWERS(19, kinchoyu_table_id(NULL, 0, NULL, 0));
     ANSWERS(19, kinchoyu_stats(NULL, 0, NULL, 0));
     ANSWERS(10, kinchoyu_label(1, 1, 0, NULL, 0));
+    ANSWERS(10, kinchoyu_representatives(1, 1, NULL, 0));
     ANSWERS(19, kinchoyu_open(NULL, 0, NULL, 0, NULL, 0, NULL, 0, NULL, 0, NULL, 0));
     ANSWERS(19, kinchoyu_rows(NULL, 0, NULL, 0, NULL, 0));
     ANSWERS(19, kinchoyu_s_words(NULL, 0, NULL, 0, NULL, 0));
@@ -166,6 +167,44 @@ static void paths(void)
     junk(path, 3, WORDS(path), __LINE__);
 }
 
+/* The number and the words of representatives, in results of every length: nothing is written where
+ * it is less than all of them, and nothing beyond. */
+static void representatives_are(uint64_t number, uint64_t n, uint64_t c, const uint64_t *wanted, int line)
+{
+    uint64_t words[KINCHOYU_REPRESENTATIVES_WORDS + 3], left[WORDS(words)];
+    for (size_t room = 0; room <= WORDS(words); room++) {
+        const int enough = room >= KINCHOYU_REPRESENTATIVES_WORDS;
+        for (size_t i = 0; i < WORDS(words); i++) {
+            words[i] = left[i] = JUNK;
+        }
+        if (enough) {
+            memcpy(left, wanted, KINCHOYU_REPRESENTATIVES_WORDS * sizeof *left);
+        }
+        answers(enough ? number : 10, kinchoyu_representatives(n, c, words, room), line);
+        answers(0, (uint64_t)(memcmp(words, left, sizeof left) != 0), line);
+    }
+}
+#define REPRESENTATIVES_ARE(number, n, c, wanted) representatives_are(number, n, c, wanted, __LINE__)
+
+/* Values from word 0, powers from word 64, and how many powers were taken. */
+static void representatives(void)
+{
+    static const uint64_t one[KINCHOYU_REPRESENTATIVES_WORDS] = {1, [64] = 1};
+    static const uint64_t five[KINCHOYU_REPRESENTATIVES_WORDS] = {
+        1, 7, 11, 13, 14, [64] = 1, 49, 121, 169, 196, [128] = 4};
+    static const uint64_t zeros[KINCHOYU_REPRESENTATIVES_WORDS];
+    uint64_t words[KINCHOYU_REPRESENTATIVES_WORDS];
+
+    REPRESENTATIVES_ARE(0, 65536, 1, one);
+    REPRESENTATIVES_ARE(0, 2, 5, five);
+    REPRESENTATIVES_ARE(1, 3, 5, zeros);
+    REPRESENTATIVES_ARE(1, 2, 65, zeros);
+    /* 23 are kept beside column 0; 56 is passed over, and its power counted */
+    ANSWERS(0, kinchoyu_representatives(64, 24, words, WORDS(words)));
+    ANSWERS(57, words[23]);
+    ANSWERS(24, words[128]);
+}
+
 /* The worked circuit with three rows of columns and one row: to four rows, and no word beyond. */
 static void padding(void)
 {
@@ -237,7 +276,7 @@ static void every_call(uint64_t first_degree, uint64_t step)
     static uint64_t list[WORDS(rows) + WORDS(s_words) + WORDS(cells) + 3 + 10];
     static const uint64_t parameters[] = {N, C, 16, 1, N, 4, 1, 1}, table[] = {1, 1, 9};
     static const uint64_t marker[] = {1, 0, 0};
-    static uint64_t padded[2 * WORDS(listing)];
+    static uint64_t padded[2 * WORDS(listing)], found[KINCHOYU_REPRESENTATIVES_WORDS];
     const struct {
         const uint64_t *words;
         size_t length;
@@ -287,6 +326,7 @@ static void every_call(uint64_t first_degree, uint64_t step)
     ANSWERS(0, kinchoyu_table_id(PLAN, out, 3));
     ANSWERS(0, kinchoyu_stats(PLAN, out, 3));
     ANSWERS(0, kinchoyu_label(N, 64, 64 * N - 1, out, 3));
+    ANSWERS(0, kinchoyu_representatives(N, 64, found, WORDS(found)));
     ANSWERS(0, kinchoyu_open(PLAN, STATE, COLUMNS));
     ANSWERS(0, kinchoyu_calls(STATE, list, listed, numbers, 5, COLUMNS));
     for (size_t i = 0; i < WORDS(numbers); i++) {
@@ -319,6 +359,7 @@ static void *in_a_thread(void *nothing)
     header();
     null_where_the_length_is_0();
     paths();
+    representatives();
     padding();
     for (uint64_t step = 0; step < 8; step++) {
         for (uint64_t first = 0; first < 8; first++) {

@@ -1,5 +1,6 @@
 //! Plans and states as words, in the order of crates/capi: parameters, gates, their count, nodes,
-//! their count, D, K, F; then counts, marks and phase.
+//! their count, D, K, F; then counts, marks and phase. Representatives as words.
+use model::labels::{Representatives, MOST_COLUMNS};
 use model::plan::{Plan, MOST_GATES, MOST_NODES};
 use model::State;
 
@@ -10,6 +11,7 @@ pub const COUNTS: usize = PLAN_WORDS;
 pub const USED: usize = COUNTS + 5;
 pub const PHASE: usize = USED + MOST_GATES;
 pub const STATE_WORDS: usize = PHASE + 1;
+pub const REPRESENTATIVES_WORDS: usize = 2 * MOST_COLUMNS + 1;
 
 pub fn plan_words(plan: &Plan) -> Vec<u64> {
     let mut words = plan.parameters.to_vec();
@@ -63,5 +65,15 @@ pub fn state_words(state: &State) -> Vec<u64> {
     words.extend([state.rows, state.s_words, state.cells, state.tables, state.height]);
     words.extend(state.used);
     words.push(state.phase);
+    words
+}
+
+/// Values, then powers, each with zeros up to the most columns; and how many powers were taken.
+pub fn representatives_words(found: &Representatives) -> Vec<u64> {
+    let mut words = found.values.clone();
+    words.resize(MOST_COLUMNS, 0);
+    words.extend(&found.powers);
+    words.resize(2 * MOST_COLUMNS, 0);
+    words.push(found.taken);
     words
 }

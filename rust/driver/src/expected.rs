@@ -91,6 +91,19 @@ pub fn label(n: u64, c: u64, cell: u64, out: &mut [u64]) -> u64 {
     label.err().unwrap_or(0)
 }
 
+/// 10, then 1 and 9, which leave zeros.
+pub fn representatives(n: u64, c: u64, out: &mut [u64]) -> u64 {
+    if out.len() < REPRESENTATIVES_WORDS {
+        return 10;
+    }
+    let (number, words) = match model::labels::representatives(n, c) {
+        Ok(found) => (0, representatives_words(&found)),
+        Err(number) => (number, vec![0; REPRESENTATIVES_WORDS]),
+    };
+    hand(&words, out);
+    number
+}
+
 /// 19, 10 for the state, then the model's own; a refused opening leaves a state of zeros.
 pub fn open(
     plan: &[u64],

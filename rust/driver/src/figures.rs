@@ -10,6 +10,8 @@ pub struct Figures {
     pub padded: u64,
     /// Circuits whose columns were compared with the original's.
     pub originals: u64,
+    /// Pairs of N and C whose representatives and powers were compared with the original's.
+    pub representatives: u64,
     pub calls: u64,
     words: u64,
     by_name: BTreeMap<&'static str, u64>,
@@ -27,6 +29,7 @@ impl Figures {
             circuits: 0,
             padded: 0,
             originals: 0,
+            representatives: 0,
             calls: 0,
             words: 0,
             by_name: BTreeMap::new(),
@@ -73,6 +76,9 @@ impl Figures {
         println!("  {}", accepted_and_refused(&self.by_number));
         if !self.by_listed.is_empty() {
             println!("  in lists of calls: {}", accepted_and_refused(&self.by_listed));
+        }
+        if self.representatives > 0 {
+            println!("  pairs of N and C compared with the original: {}", self.representatives);
         }
         if self.circuits > 0 {
             println!("  circuits by mode: {}", listed(&self.by_mode));

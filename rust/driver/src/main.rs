@@ -4,6 +4,7 @@
 //!   driver random COUNT SEED [FIRST]  COUNT random circuits in random pieces, stray calls among them
 //!   driver every-word                 good plans and states with each word changed in turn
 //!   driver plans                      all short gate lists; plans that no planning gives
+//!   driver representatives            of every N and C; such as are turned down
 //!   driver ends                       the ends of what is taken
 //!   driver largest                    the largest circuit of each mode, whole and padded
 //!
@@ -20,6 +21,7 @@ mod figures;
 mod original;
 mod padding;
 mod plans;
+mod representatives;
 mod rest;
 mod script;
 mod sides;
@@ -147,10 +149,14 @@ fn main() {
         }
         ["every-word"] => every_word::run(&mut figures),
         ["plans"] => plans::run(&mut figures),
+        ["representatives"] => representatives::run(&mut figures),
         ["ends"] => ends::run(&mut figures),
         ["largest"] => largest(&mut figures),
         _ => {
-            eprintln!("driver random COUNT SEED [FIRST] | every-word | plans | ends | largest");
+            eprintln!(
+                "driver random COUNT SEED [FIRST] | every-word | plans | representatives | \
+                 ends | largest"
+            );
             std::process::exit(2)
         }
     };

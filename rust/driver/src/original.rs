@@ -4,6 +4,7 @@ use crate::figures::Figures;
 use crate::random::Random;
 use crate::script::{accepted, named};
 use crate::sides::*;
+use model::labels::MOST_COLUMNS;
 use oracle::{Outcome, Output};
 
 /// How many paths of a circuit are asked for.
@@ -76,5 +77,16 @@ pub fn compare(
             }
         }
         _ => Err("library and original: one refuses, the other does not".to_string()),
+    }
+}
+
+/// Compares representatives that the library left, and their powers, with the original's.
+pub fn representatives(sides: &Sides, figures: &mut Figures, n: u64, c: u64) -> Result<(), String> {
+    let (values, powers) = oracle::representatives(n, c);
+    let (own_values, own_powers) = sides.library[OUT].split_at(MOST_COLUMNS);
+    figures.representatives += 1;
+    match own_values.starts_with(&values) && own_powers.starts_with(&powers) {
+        true => Ok(()),
+        false => Err(format!("N = {n}, C = {c}: library and original differ: representatives")),
     }
 }

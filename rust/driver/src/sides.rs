@@ -15,6 +15,7 @@ pub enum Call<'a> {
     TableId,
     Path(u64),
     Label(u64, u64, u64),
+    Representatives(u64, u64),
     Open,
     Rows(&'a [u64]),
     SWords(&'a [u64]),
@@ -34,6 +35,7 @@ impl Call<'_> {
             Call::TableId => "table_id",
             Call::Path(_) => "path",
             Call::Label(..) => "label",
+            Call::Representatives(..) => "representatives",
             Call::Open => "open",
             Call::Rows(_) => "rows",
             Call::SWords(_) => "s_words",
@@ -92,6 +94,7 @@ fn by_library(call: Call, lent: Lent) -> u64 {
         Call::TableId => raw::table_id(plan, out),
         Call::Path(gate) => raw::path(plan, gate, out),
         Call::Label(n, c, cell) => raw::label(n, c, cell, out),
+        Call::Representatives(n, c) => raw::representatives(n, c, out),
         Call::Open => raw::open(plan, state, constants, copies, scratch, tables),
         Call::Rows(piece) => raw::rows(state, piece, constants),
         Call::SWords(piece) => raw::s_words(state, piece, constants),
@@ -112,6 +115,7 @@ fn by_model(call: Call, lent: Lent) -> u64 {
         Call::TableId => expected::table_id(plan, out),
         Call::Path(gate) => expected::path(plan, gate, out),
         Call::Label(n, c, cell) => expected::label(n, c, cell, out),
+        Call::Representatives(n, c) => expected::representatives(n, c, out),
         Call::Open => expected::open(plan, state, constants, copies, scratch, tables),
         Call::Rows(piece) => expected::rows(state, piece, constants),
         Call::SWords(piece) => expected::s_words(state, piece, constants),
@@ -158,14 +162,18 @@ impl Sides {
         }
     }
 
-    /// So many words for a padded listing and for its count are lent, and all are junk, also some
-    /// words beyond.
+    /// So many words of a buffer are lent, and all are junk, also some words beyond.
+    pub fn renew(&mut self, r: &mut Random, buffer: usize, length: u64) {
+        let beyond = r.within(0, 5);
+        self.library[buffer] = junk(r, (length + beyond) as usize);
+        self.model[buffer] = self.library[buffer].clone();
+        self.lent[buffer] = length as usize;
+    }
+
+    /// The same for a padded listing and for its count.
     pub fn allocate_padded(&mut self, r: &mut Random, lengths: [u64; 2]) {
         for (buffer, length) in (PADDED..).zip(lengths) {
-            let beyond = r.within(0, 5);
-            self.library[buffer] = junk(r, (length + beyond) as usize);
-            self.model[buffer] = self.library[buffer].clone();
-            self.lent[buffer] = length as usize;
+            self.renew(r, buffer, length);
         }
     }
 

@@ -1,7 +1,7 @@
 //! Calls that a circuit does not ask for: faulty pieces, short buffers, made-up plans and states.
 //! Those that may be accepted are made on a copy of both sides.
 use crate::circuit::{Circuit, PLACEHOLDER};
-use crate::encoding::{GATE_COUNT, PLAN_WORDS, STATE_WORDS, USED};
+use crate::encoding::{GATE_COUNT, PLAN_WORDS, REPRESENTATIVES_WORDS, STATE_WORDS, USED};
 use crate::figures::Figures;
 use crate::random::Random;
 use crate::rest::{Rest, Section, SECTIONS};
@@ -195,20 +195,32 @@ pub fn planning(r: &mut Random, sides: &mut Sides, figures: &mut Figures, x: &Ci
     sides.make(figures, Call::Plan(&parameters, &gates)).map(drop)
 }
 
-/// Questions to a plan, with results of any length; the plan may be made up or cut.
-pub fn questions(r: &mut Random, sides: &mut Sides, figures: &mut Figures, x: &Circuit) -> Try {
+/// A question to a plan, or one for labels or representatives by themselves.
+fn question(r: &mut Random, x: &Circuit) -> Call<'static> {
     let [n, c, ..] = x.parameters;
     let gate = r.ends(&[x.gates.len() as u64, u64::MAX], 0, x.gates.len() as u64 - 1);
     let cell = r.ends(&[c * n, c * n - 1, u64::MAX], 0, c * n - 1);
     let (near_n, near_c) = (other(r, n), other(r, c));
-    let label = r.pick(&[
+    let (n, c) = r.pick(&[(n, c), (near_n, c), (n, near_c)]);
+    r.pick(&[
+        Call::Stats,
+        Call::TableId,
+        Call::Path(gate),
         Call::Label(n, c, cell),
-        Call::Label(near_n, c, cell),
-        Call::Label(n, near_c, cell),
-    ]);
-    let call = r.pick(&[Call::Stats, Call::TableId, Call::Path(gate), label]);
+        Call::Representatives(n, c),
+    ])
+}
+
+/// Questions with results of any length; the plan may be made up or cut.
+pub fn questions(r: &mut Random, sides: &mut Sides, figures: &mut Figures, x: &Circuit) -> Try {
+    let call = question(r, x);
     let mut aside = sides.clone();
     aside.lent[OUT] = r.within(0, 6) as usize;
+    if let Call::Representatives(..) = call {
+        let all = REPRESENTATIVES_WORDS as u64;
+        let length = r.ends(&[all - 1, all, all + 1], 0, 2 * all);
+        aside.renew(r, OUT, length);
+    }
     match r.within(0, 5) {
         0 => {
             let place = place(r, PLAN_WORDS);

@@ -33,6 +33,7 @@ extern "C" {
         out_length: usize,
     ) -> u64;
     pub fn kinchoyu_label(n: u64, c: u64, cell: u64, out: *mut u64, out_length: usize) -> u64;
+    pub fn kinchoyu_representatives(n: u64, c: u64, out: *mut u64, out_length: usize) -> u64;
     pub fn kinchoyu_open(
         plan: *const u64,
         plan_length: usize,

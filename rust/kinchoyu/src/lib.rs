@@ -64,6 +64,7 @@ mod c;
 mod calls;
 mod columns;
 mod intake;
+mod labels;
 mod listing;
 mod parameters;
 mod plan;
@@ -73,9 +74,10 @@ mod refusal;
 pub use calls::Calls;
 pub use columns::{Columns, Lengths, Lent};
 pub use intake::{Cell, Intake};
+pub use labels::{label, representatives, Representatives};
 pub use listing::{listing_from_bytes, pad, run, run_in};
 pub use parameters::{Gate, Lookup, Parameters};
-pub use plan::{label, Path, Plan, Selection, Stats};
+pub use plan::{Path, Plan, Selection, Stats};
 pub use refusal::Refusal;
 
 /// p = 2^64 − 2^32 + 1; words of rows, S words and tables are below it.

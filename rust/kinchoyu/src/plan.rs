@@ -158,11 +158,3 @@ impl Plan {
         (count == 1).then_some(index)
     }
 }
-
-/// The label of a cell of `copy` columns of `trace` rows: column c, row r has number
-/// c * trace + r. Refusals 1 and 9.
-pub fn label(trace: u64, copy: u64, cell: u64) -> Result<u64, Refusal> {
-    let mut out = [0];
-    answer(raw::label(trace, copy, cell, &mut out))?;
-    Ok(out[0])
-}

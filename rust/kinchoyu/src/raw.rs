@@ -58,6 +58,16 @@ pub fn label(n: u64, c: u64, cell: u64, out: &mut [u64]) -> u64 {
     unsafe { c::kinchoyu_label(n, c, cell, out.as_mut_ptr(), out.len()) }
 }
 
+/// How many words [`representatives`] writes.
+pub const REPRESENTATIVES_WORDS: usize = 129;
+
+/// The columns' representatives and zeros, 64 words; their N-th powers and zeros, 64 words; and the
+/// number of N-th powers taken.
+pub fn representatives(n: u64, c: u64, out: &mut [u64]) -> u64 {
+    // SAFETY: pointers and lengths of references, as said above.
+    unsafe { c::kinchoyu_representatives(n, c, out.as_mut_ptr(), out.len()) }
+}
+
 /// Opens the columns of a plan.
 pub fn open(
     plan: &[u64],

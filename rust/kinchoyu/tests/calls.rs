@@ -175,6 +175,50 @@ fn what_a_path_call_writes() {
 }
 
 #[test]
+fn representatives_with_their_powers() {
+    let found = representatives(2, 5).unwrap();
+    assert_eq!(found.values, [1, 7, 11, 13, 14]);
+    assert_eq!((found.powers, found.taken), (vec![1, 49, 121, 169, 196], 4));
+    for (trace, copy, taken) in [(1, 1, 0), (65536, 1, 0), (32, 24, 23), (64, 24, 24)] {
+        let found = representatives(trace, copy).unwrap();
+        let first: Vec<u64> = (0..copy).map(|c| label(trace, copy, c * trace).unwrap()).collect();
+        assert_eq!((found.values, found.taken), (first, taken));
+        assert_eq!((found.powers.len() as u64, found.powers[0]), (copy, 1));
+    }
+    let most = representatives(65536, 64).unwrap();
+    assert!(most.values.len() == 64 && most.powers.len() == 64 && !most.powers.contains(&0));
+    for (trace, copy) in [(0, 1), (3, 1), (131072, 1), (1, 0), (1, 65), (u64::MAX, u64::MAX)] {
+        assert_eq!(representatives(trace, copy), Err(Refusal::Parameter));
+    }
+}
+
+#[test]
+fn what_a_call_for_representatives_writes() {
+    const WORDS: usize = raw::REPRESENTATIVES_WORDS;
+    let asked = |n: u64, c: u64, length: usize| {
+        let mut out = [7; WORDS + 2];
+        (raw::representatives(n, c, &mut out[..length]), out)
+    };
+    let written = |words: &[(usize, u64)]| {
+        let mut out = [0; WORDS + 2];
+        out[WORDS..].fill(7);
+        words.iter().for_each(|(place, word)| out[*place] = *word);
+        out
+    };
+    let two = written(&[(0, 1), (1, 7), (64, 1), (65, 49), (128, 1)]);
+    for length in 0..WORDS {
+        assert_eq!(asked(2, 2, length), (10, [7; WORDS + 2]));
+        // 10 comes before 1
+        assert_eq!(asked(3, 2, length), (10, [7; WORDS + 2]));
+    }
+    for length in WORDS..=WORDS + 2 {
+        assert_eq!(asked(2, 2, length), (0, two));
+        assert_eq!(asked(3, 2, length), (1, written(&[])));
+        assert_eq!(asked(2, 65, length), (1, written(&[])));
+    }
+}
+
+#[test]
 fn refusals_have_the_numbers_of_the_documents() {
     let numbers: Vec<u64> = Refusal::all().map(Refusal::number).collect();
     assert_eq!(numbers, (1..23).collect::<Vec<u64>>());

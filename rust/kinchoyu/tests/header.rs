@@ -59,7 +59,7 @@ fn one_way(argument: &str) -> String {
 #[test]
 fn header_crate_and_document_declare_the_same_functions() {
     let header = functions(&header(), "\nuint64_t kinchoyu_");
-    assert_eq!(header.len(), 16);
+    assert_eq!(header.len(), 17);
     assert_eq!(header["label"][3], "uint64_t *out");
     assert_eq!(header["state_words"].len(), 0);
     assert_eq!(functions(&read("src/c.rs"), "pub fn kinchoyu_"), header);
@@ -73,11 +73,17 @@ fn macros_are_what_the_library_answers() {
     let said = |name: &str| -> u64 { macros[name].parse().expect("a number") };
     assert_eq!(said("PLAN_WORDS"), raw::plan_words() as u64);
     assert_eq!(said("STATE_WORDS"), raw::state_words() as u64);
+    assert_eq!(said("REPRESENTATIVES_WORDS"), raw::REPRESENTATIVES_WORDS as u64);
     assert_eq!(said("STACK_BYTES"), STACK_BYTES as u64);
     assert_eq!(said("P"), P);
     let parts = ["MAJOR", "MINOR", "PATCH"].map(|part| macros[&*format!("VERSION_{part}")]);
     assert_eq!(parts.join("."), env!("CARGO_PKG_VERSION"));
     assert_eq!(macros["VERSION"].trim_matches('"'), env!("CARGO_PKG_VERSION"));
+
+    // so many words of representatives are no refusal 10
+    let mut out = vec![0; said("REPRESENTATIVES_WORDS") as usize];
+    assert_eq!(raw::representatives(1, 1, &mut out), 0);
+    assert_eq!(raw::representatives(1, 1, &mut out[1..]), Refusal::ShortBuffer.number());
 
     // so many parameters are no refusal 20, and so many gates of so many words no refusal 3
     let mut plan = vec![0; raw::plan_words()];

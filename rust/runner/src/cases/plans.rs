@@ -1,7 +1,7 @@
 use super::Checks;
 use crate::made_up::{balanced_65, chain};
 use model::field::{add, is_non_residue, mul, pow, sub, P};
-use model::labels::{label, representatives};
+use model::labels::{label, representatives, Representatives};
 use model::plan::Plan;
 use model::{path, plan, table_id, PathAnswer};
 
@@ -20,14 +20,16 @@ pub fn field(c: &mut Checks) {
 }
 
 pub fn labels(c: &mut Checks) {
-    c.same("P4", representatives(2, 5), Ok(vec![1, 7, 11, 13, 14]));
-    c.same("column 23 at N = 32", representatives(32, 24).unwrap()[23], 56);
-    c.same(
-        "column 23 at N = 64: 56 is in the coset of 7",
-        representatives(64, 24).unwrap()[23],
-        57,
-    );
-    c.same("one column", representatives(65536, 1), Ok(vec![1]));
+    let (values, powers) = (vec![1, 7, 11, 13, 14], vec![1, 49, 121, 169, 196]);
+    let p4 = Representatives { values, powers, taken: 4 };
+    c.same("P4, its powers, and four taken", representatives(2, 5), Ok(p4));
+    let (at_32, at_64) = (representatives(32, 24).unwrap(), representatives(64, 24).unwrap());
+    c.same("column 23 at N = 32", at_32.values[23], 56);
+    c.same("column 23 at N = 64: 56 is in the coset of 7", at_64.values[23], 57);
+    c.same("its power is 57's", at_64.powers[23], 5831129045225821067);
+    c.same("56's power is taken, kept or not", [at_32, at_64].map(|x| x.taken), [23, 24]);
+    let one = Representatives { values: vec![1], powers: vec![1], taken: 0 };
+    c.same("one column", representatives(65536, 1), Ok(one));
     for (n, columns) in [(0, 1), (3, 1), (131072, 1), (1, 0), (1, 65)] {
         c.same("range of N and C", representatives(n, columns), Err(1));
         c.same("range of N and C", label(n, columns, 0), Err(1));

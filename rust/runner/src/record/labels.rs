@@ -1,9 +1,11 @@
 //! Labels as the original makes them: the copy columns of a circuit of placeholders. The
-//! refusals are the model's.
-use super::VERSION;
+//! powers are the original's too. The refusals and the number of powers taken are the model's.
 use crate::circuit::Circuit;
 use crate::random::Random;
 use model::labels::{label, representatives};
+
+/// 2 since the representatives have their powers.
+const VERSION: u64 = 2;
 
 /// Copy columns for each N; the coset test decides from N = 64 and C = 24 on.
 const COLUMNS: [u64; 6] = [1, 2, 5, 23, 24, 64];
@@ -13,11 +15,23 @@ fn columns(n: u64, c: u64) -> Vec<Vec<u64>> {
     oracle::run(&circuit.listing()).expect("a circuit of placeholders").copies
 }
 
-/// N, C, the representatives, a count, and that many cells with their labels.
+/// The original's representatives, which are the columns' first labels, their powers, and how many
+/// powers the model took; it has to find the same.
+fn searched(n: u64, c: u64, columns: &[Vec<u64>]) -> Vec<u64> {
+    let (values, powers) = oracle::representatives(n, c);
+    let first: Vec<u64> = columns.iter().map(|column| column[0]).collect();
+    assert_eq!(first, values, "representatives for {n} and {c}");
+    let own = representatives(n, c).expect("N and C in range");
+    assert_eq!((&own.values, &own.powers), (&values, &powers), "{n} and {c}");
+    [first, powers, vec![own.taken]].concat()
+}
+
+/// N, C, the representatives, their powers, how many powers were taken, a count, and that many cells
+/// with their labels.
 fn accepted(r: &mut Random, n: u64, c: u64, words: &mut Vec<u64>) {
     let columns = columns(n, c);
     words.extend([n, c]);
-    words.extend(columns.iter().map(|column| column[0]));
+    words.extend(searched(n, c, &columns));
     let mut cells = vec![0, c * n - 1];
     cells.extend((0..6).map(|_| r.within(0, c * n - 1)));
     cells.sort();

@@ -6,7 +6,7 @@ mod labels;
 mod listings;
 mod tree;
 
-/// Of every format that has not changed; `tree` has its own.
+/// Of every format that has not changed; `labels` and `tree` have their own.
 pub const VERSION: u64 = 1;
 
 fn write(folder: &str, name: &str, words: &[u64]) {

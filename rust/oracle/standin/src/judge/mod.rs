@@ -5,11 +5,13 @@ mod assembly;
 pub mod clock;
 mod listing;
 mod parts;
+mod representatives;
 
 pub use answer::Output;
 use assembly::Assembly;
 pub use listing::Listing;
 pub use parts::{prepare, Prepared};
+pub use representatives::representatives;
 
 use crate::worker::Worker;
 use std::panic::{catch_unwind, AssertUnwindSafe};
