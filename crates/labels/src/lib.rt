@@ -140,6 +140,7 @@ pub struct RepresentativesAnswer {
     pub taken: u64,
 }
 
+// A refused answer.
 fn no_representatives(number: u64) -> RepresentativesAnswer
     ensures { λ r. ⌜ r ≡ noRepresentatives number ⌝ }
 {
