@@ -20,7 +20,7 @@ use Rattle.base.specs.Modular.{mul-mod}
 use Rattle.base.specs.Roots.{Root}
 use Rattle.base.specs.Cosets.{Cosets, coset-apart, coset-nonzero}
 use Rattle.field.specs.Field.{p, fpow, isNonResidue}
-use Rattle.field.specs.FieldLaws.{domain-root, fmul-below}
+use Rattle.field.specs.FieldLaws.{fmul-below}
 use Rattle.labels.specs.Refusals.{outOfRange, candidatesReachP}
 use Rattle.labels.specs.Ranges.{rangesFit, mostColumns}
 use Rattle.labels.specs.RangesLaws.{Ranges, ranges-fit, some-row}

@@ -16,7 +16,6 @@ use Rattle.labels.specs.RangesLaws.{Ranges, ranges-fit, cells-fit}
 use Rattle.labels.specs.Labels.{representativesNumber, representativesOf, labelOf, fillNumber, labelsWritten}
 use Rattle.labels.specs.Filling.{all-columns, half-turn}
 use Rattle.labels.specs.LabelLaws.{column-zero, fill-number, written-is, written-refused}
-use borrow.Author.Needs.{needs}
 use Rattle.labels.proofs.fill_labels.Statement.{statement}
 use Rattle.labels.proofs.fill_labels.Tie as tie
 

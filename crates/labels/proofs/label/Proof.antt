@@ -15,7 +15,6 @@ use Rattle.labels.specs.Ranges.{rangesFit}
 use Rattle.labels.specs.RangesLaws.{Ranges, ranges-fit, some-row, cells-fit}
 use Rattle.labels.specs.Labels.{representativesOf, labelOf, labelNumber, labelAnswer}
 use Rattle.labels.specs.LabelLaws.{label-number, label-accepted, label-refused}
-use borrow.Author.Needs.{needs}
 use Rattle.labels.proofs.label.Statement.{statement}
 use Rattle.labels.proofs.label.Tie as tie
 

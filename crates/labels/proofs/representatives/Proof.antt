@@ -15,7 +15,6 @@ use Rattle.labels.specs.Ranges.{rangesFit}
 use Rattle.labels.specs.RangesLaws.{ranges-fit}
 use Rattle.labels.specs.Labels.{found, powersTaken, searchNumber, representativesNumber, representativesOf, powersOf, takenOf}
 use Rattle.labels.specs.Search.{stored, noRepresentatives}
-use borrow.Author.Needs.{needs}
 use Rattle.labels.proofs.representatives.Statement.{statement}
 use Rattle.labels.proofs.representatives.Tie as tie
 

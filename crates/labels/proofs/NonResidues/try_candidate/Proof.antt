@@ -3,7 +3,7 @@
 use borrow.Author.Needs.{needs}
 use mathlib.Core.Path.{_≡_, sym, ap, _∙_}
 use mathlib.Core.Bool.{true, false}
-use Prim.Native.Nat.{_+_, _-_}
+use Prim.Native.Nat.{_+_}
 use native.Mathlib.Nat.{add-zero}
 use native.Mathlib.Omega.{arith}
 use lib.ListN.{length}
@@ -12,7 +12,6 @@ use Rattle.field.specs.Field.{fpow, isNonResidue}
 use Rattle.labels.specs.Labels.{Columns, absent}
 use Rattle.labels.specs.Ranges.{mostColumns}
 use Rattle.labels.specs.Search.{stored, held-powers, held-taken, held-next, tried-kept, tried-coset, tried-residue}
-use borrow.Author.Needs.{needs}
 use Rattle.labels.proofs.NonResidues.try_candidate.Statement.{statement}
 use Rattle.labels.proofs.NonResidues.try_candidate.Tie as tie
 
