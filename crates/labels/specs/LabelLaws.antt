@@ -2,7 +2,7 @@
 --
 -- Main definition: `DistinctLabels` (below p, nonzero, pairwise distinct).
 -- Main statements: `distinct-labels`, for any list of representatives that are `Cosets` of base; `search-cosets` (01's search gives such a
--- list); `powers-beside`, `taken-enough` (what is handed back beside it); for the words that `labelsWritten` puts down: `written-is`, `written-refused`.
+-- list); `powers-beside`, `zeros-behind`, `taken-enough` (what is handed back beside it); for the words that `labelsWritten` puts down: `written-is`, `written-refused`.
 use mathlib.Core.Path.{_≡_, sym, ap, _∙_, subst}
 use mathlib.Core.Logic.{_≢_}
 use mathlib.Core.Bool.{true}
@@ -11,7 +11,8 @@ use Prim.Native.Nat.{ℕ, _+_, _-_, _*_, _/_, _%_, _^_, _≤_, _<_}
 use native.Mathlib.Nat.{mod-lt, div-add-mod, div-lt-iff-lt-mul}
 use native.Mathlib.Decide.{decLt}
 use native.Mathlib.Omega.{arith}
-use lib.ListN.{length, getD, drop, replicate, List·getD-append}
+use lib.ListN.{length, getD, drop, replicate, length-replicate, getD-replicate, List·getD-append, List·getD-eq-default}
+use lib.Seq.{getD-append-add}
 use borrow.Author.Tests.{lt-ltb, le-leb, eq-eqb, ne-eqb}
 use Rattle.base.specs.Pick.{pick, pick-zero}
 use Rattle.base.specs.Exponent.{exponent}
@@ -25,7 +26,7 @@ use Rattle.labels.specs.Refusals.{outOfRange, candidatesReachP}
 use Rattle.labels.specs.Ranges.{rangesFit, mostColumns}
 use Rattle.labels.specs.RangesLaws.{Ranges, ranges-fit, some-row}
 use Rattle.labels.specs.Labels.{domainGenerator, firstColumn, found, powersTaken, searchNumber, columnWords, representativesNumber, representativesOf, powersOf, takenOf, labelOf, labelNumber, labelAnswer, fillNumber, labelsWritten}
-use Rattle.labels.specs.Search.{search-taken, found-chosen}
+use Rattle.labels.specs.Search.{search-taken, search-most, found-chosen}
 use Rattle.labels.specs.Filling.{generator-root}
 
 -- labels at the first m words of a list
@@ -89,10 +90,14 @@ search-enough n c z = go (decLt (length (found n c .values)) c)
     go (yes a) = let e : candidatesReachP ≡ 0 = rw (lt-ltb (length (found n c .values)) c a) at z in absurd (omega arith)
     go (no a) = omega arith
 
+found-most : (n c : ℕ) → 1 ≤ c → length (found n c .values) ≤ c
+unfolding found
+found-most n c h = search-most isNonResidue (λ k. fpow k n) (p - 2) c 2 firstColumn h
+
 -- what an accepted search gives
 pub record AcceptedSearch (n c : ℕ) : Type 0 where
   pub ranges : Ranges n c
-  pub enough : c ≤ length (found n c .values)
+  pub many : length (found n c .values) ≡ c
   pub answer : representativesOf n c ≡ columnWords (found n c .values)
   pub powers : powersOf n c ≡ columnWords (found n c .powers)
   pub taken : takenOf n c ≡ powersTaken n c
@@ -101,9 +106,10 @@ accepted-search : (n c : ℕ) → representativesNumber n c ≡ 0 → AcceptedSe
 unfolding representativesNumber representativesOf powersOf takenOf
 accepted-search n c z =
     let q = pick-zero (rangesFit n c) (searchNumber n c) outOfRange (omega arith) z in
+    let r = ranges-fit n c (q .0) in
     record {
-      ranges = ranges-fit n c (q .0);
-      enough = search-enough n c (q .1);
+      ranges = r;
+      many = omega (arith, search-enough n c (q .1), found-most n c (r .some-column));
       answer = rw (eq-eqb (pick (rangesFit n c) (searchNumber n c) outOfRange) 0 z);
       powers = rw (eq-eqb (pick (rangesFit n c) (searchNumber n c) outOfRange) 0 z);
       taken = rw (eq-eqb (pick (rangesFit n c) (searchNumber n c) outOfRange) 0 z);
@@ -118,11 +124,24 @@ found-taken n c = search-taken isNonResidue (λ k. fpow k n) (p - 2) c 2 firstCo
 padded-at : (xs : List ℕ) (i : ℕ) → i < length xs → getD (columnWords xs) i 0 ≡ getD xs i 0
 padded-at xs i h = List·getD-append xs (replicate (mostColumns - length xs) 0) 0 i h
 
+-- and of one that has none
+zero-at : (n i : ℕ) → getD (replicate {A = ℕ} n 0) i 0 ≡ 0
+zero-at n i = go (decLt i n)
+  where
+    go : Dec (i < n) → getD (replicate {A = ℕ} n 0) i 0 ≡ 0
+    go (yes h) = getD-replicate n i 0 0 h
+    go (no h) = List·getD-eq-default (replicate {A = ℕ} n 0) 0 (rw length-replicate (omega arith))
+
+padded-behind : (xs : List ℕ) (i : ℕ) → length xs ≤ i → getD (columnWords xs) i 0 ≡ 0
+padded-behind xs i h =
+    let e : i ≡ length xs + (i - length xs) = omega arith in
+    ap (λ (j : ℕ). getD (columnWords xs) j 0) e ∙ getD-append-add xs (replicate (mostColumns - length xs) 0) (i - length xs) 0 ∙ zero-at (mostColumns - length xs) (i - length xs)
+
 module _ (n c : ℕ) (z : representativesNumber n c ≡ 0) where
   rep-at : (i : ℕ) → i < c → getD (representativesOf n c) i 0 ≡ getD (found n c .values) i 0
   rep-at i h =
       let a = accepted-search n c z in
-      ap (λ (l : List ℕ). getD l i 0) (a .answer) ∙ padded-at (found n c .values) i (omega (arith, a .enough))
+      ap (λ (l : List ℕ). getD l i 0) (a .answer) ∙ padded-at (found n c .values) i (omega (arith, a .many))
 
   -- column 0 has representative 1
   pub column-zero : getD (representativesOf n c) 0 0 ≡ 1
@@ -133,13 +152,22 @@ module _ (n c : ℕ) (z : representativesNumber n c ≡ 0) where
   powers-beside i h =
       let a = accepted-search n c z in
       let f = found-chosen n c in
-      let l : i < length (found n c .values) = omega (arith, a .enough) in
+      let l : i < length (found n c .values) = omega (arith, a .many) in
       ap (λ (w : List ℕ). getD w i 0) (a .powers) ∙ padded-at (found n c .powers) i (omega (arith, f .beside))
       ∙ f .power i l ∙ ap (λ (x : ℕ). fpow x n) (sym (rep-at i h))
 
+  -- what stands behind the words of the C columns
+  pub zeros-behind : (i : ℕ) → c ≤ i → (getD (representativesOf n c) i 0 ≡ 0) × (getD (powersOf n c) i 0 ≡ 0)
+  zeros-behind i h =
+      let a = accepted-search n c z in
+      let f = found-chosen n c in (
+        ap (λ (w : List ℕ). getD w i 0) (a .answer) ∙ padded-behind (found n c .values) i (omega (arith, a .many)),
+        ap (λ (w : List ℕ). getD w i 0) (a .powers) ∙ padded-behind (found n c .powers) i (omega (arith, a .many, f .beside)),
+      )
+
   -- and no column but column 0 got its representative without a power that counts
   pub taken-enough : c - 1 ≤ takenOf n c
-  taken-enough = let a = accepted-search n c z in omega (arith, a .enough, a .taken, found-taken n c)
+  taken-enough = let a = accepted-search n c z in omega (arith, a .many, a .taken, found-taken n c)
 
   -- 01's rule gives representatives of different cosets
   pub search-cosets : Cosets p n c (columnRep (representativesOf n c))
@@ -148,10 +176,10 @@ module _ (n c : ℕ) (z : representativesNumber n c ≡ 0) where
       let a = accepted-search n c z in
       let f = found-chosen n c in
       record {
-        units = λ i h. rw (rep-at i h) (f .unit i (omega (arith, a .enough)));
+        units = λ i h. rw (rep-at i h) (f .unit i (omega (arith, a .many)));
         apart = λ i j h l q.
-            f .apart i j (omega (arith, a .enough)) (omega (arith, a .enough))
-            (f .power i (omega (arith, a .enough)) ∙ rw (rep-at i h, rep-at j l) at q ∙ sym (f .power j (omega (arith, a .enough))));
+            f .apart i j (omega (arith, a .many)) (omega (arith, a .many))
+            (f .power i (omega (arith, a .many)) ∙ rw (rep-at i h, rep-at j l) at q ∙ sym (f .power j (omega (arith, a .many))));
       }
 
 -- ---- a label asked for by itself

@@ -1,7 +1,7 @@
 -- The search for representatives, for its proofs: its equations, how the code holds the columns found so far, and what is known of them.
 --
 -- Main definitions: `stored` (the columns in arrays of `mostColumns`), `noRepresentatives`, `Chosen` (what the search keeps true).
--- Main statements: `search-stop`, `search-next`; `tried-kept`, `tried-residue`, `tried-coset`; `taken-stop`, `taken-next`, `search-taken` (no column without a power taken);
+-- Main statements: `search-stop`, `search-next`; `tried-kept`, `tried-residue`, `tried-coset`; `taken-stop`, `taken-next`, `search-taken` (no column without a power taken), `search-most` (no more columns than asked for);
 -- `absent-apart`; `search-chosen`, `found-chosen`.
 use mathlib.Core.Path.{_≡_, refl, sym, ap, _∙_}
 use mathlib.Core.Logic.{_≢_, _⊎_, inl, inr}
@@ -76,6 +76,14 @@ absent-apart x (w ∷ ws) i a h q = go (ℕ-discrete x w) i h q (absent-apart x 
     go (no d) zero h q more = d (sym q)
     go (no d) (suc j) h q more = more j (rw (ne-eqb x w d) at a) (le-of-suc-le-suc h) q
 
+-- a candidate counts once or not at all
+pub one-most : (test : ℕ → Bool) (k : ℕ) → takenOne test k ≤ 1
+one-most test k = go (test k)
+  where
+    go : (b : Bool) → pick b 1 0 ≤ 1
+    go true = omega arith
+    go false = omega arith
+
 module _ (test : ℕ → Bool) (power : ℕ → ℕ) where
   pub tried-kept : (k : ℕ) (s : Columns) → test k ≡ true → absent (power k) (s .powers) ≡ true → tried test power k s ≡ kept s k (power k)
   unfolding tried
@@ -140,6 +148,19 @@ module _ (test : ℕ → Bool) (power : ℕ → ℕ) where
           ≤ length (s .values) + pick (ltb (length (s .values)) c) (takenOne test k + takenFrom test power fuel c (suc k) (tried test power k s)) 0
       go true e m = rw e (omega (arith, m, tried-taken k s))
       go false e m = rw e (omega arith)
+
+  -- and the search ends where c columns have theirs
+  pub search-most : (fuel c k : ℕ) (s : Columns) → length (s .values) ≤ c → length (searchFrom test power fuel c k s .values) ≤ c
+  unfolding searchFrom
+  search-most zero c k s h = h
+  search-most (suc fuel) c k s h = go (decLt (length (s .values)) c) (search-most fuel c (suc k) (tried test power k s))
+    where
+      more : Columns
+      more = searchFrom test power fuel c (suc k) (tried test power k s)
+
+      go : Dec (length (s .values) < c) → (length (tried test power k s .values) ≤ c → length (more .values) ≤ c) → length (pick (ltb (length (s .values)) c) more s .values) ≤ c
+      go (yes l) m = rw (lt-ltb (length (s .values)) c l) (m (omega (arith, tried-taken k s, one-most test k)))
+      go (no l) m = rw (le-ltb (length (s .values)) c (omega arith)) h
 
 -- a non-residue's power to p - 1 is 1
 unit-power : (k : ℕ) → isNonResidue k ≡ true → fpow k (p - 1) ≡ 1

@@ -3,16 +3,14 @@
 -- Assumes nothing.
 use borrow.Author.Needs.{needs}
 use mathlib.Core.Path.{_≡_, refl, sym, ap, _∙_}
-use mathlib.Core.Bool.{Bool, true, false}
 use Prim.Native.Nat.{ℕ, _+_, _-_, _≤_, _<_}
 use native.Mathlib.Nat.{add-zero, zero-add, add-assoc}
 use native.Mathlib.Omega.{arith}
 use lib.ListN.{length}
-use Rattle.base.specs.Pick.{pick}
 use Rattle.field.specs.Field.{p, fpow, isNonResidue}
 use Rattle.labels.specs.declared.NonResidues.{NonResidues}
 use Rattle.labels.specs.Labels.{Columns, firstColumn, tried, searchFrom, found, takenOne, takenFrom, powersTaken}
-use Rattle.labels.specs.Search.{stored, Chosen, first-chosen, tried-chosen, search-stop, search-out, search-next, taken-stop, taken-out, taken-next}
+use Rattle.labels.specs.Search.{stored, Chosen, first-chosen, tried-chosen, search-stop, search-out, search-next, taken-stop, taken-out, taken-next, one-most}
 use Rattle.labels.proofs.make_non_residues.Statement.{statement}
 use Rattle.labels.proofs.make_non_residues.Tie as tie
 
@@ -31,14 +29,6 @@ unfolding found powersTaken
 search-begin n c f e =
     record { columns = firstColumn; taken = 0; held = e; chosen = first-chosen n; within = omega arith; few = omega arith; same = refl; counted = sym (zero-add _) }
 
--- a candidate counts once or not at all
-taken-one : (k t : ℕ) → t + 2 ≤ k → t + takenOne isNonResidue k + 2 ≤ k + 1
-taken-one k t h = go (isNonResidue k)
-  where
-    go : (b : Bool) → t + pick b 1 0 + 2 ≤ k + 1
-    go true = omega arith
-    go false = omega arith
-
 search-turn : (n c k : ℕ) (f g : NonResidues) → Searching n c k f → k < p → f .kept < c
     → ((s : Columns) (t : ℕ) → f ≡ stored s t → length (s .powers) ≡ length (s .values)
     → g ≡ stored (tried isNonResidue (λ j. fpow j n) k s) (t + takenOne isNonResidue k))
@@ -52,7 +42,7 @@ search-turn n c k f g h l m step =
       held = step (h .columns) (h .taken) (h .held) (h .chosen .beside);
       chosen = tried-chosen n k (h .columns) (h .chosen);
       within = omega arith;
-      few = taken-one k (h .taken) (h .few);
+      few = omega (arith, h .few, one-most isNonResidue k);
       same = h .same ∙ search-next isNonResidue (λ j. fpow j n) (p - k) c k (h .columns) (omega arith) short ∙ rw e;
       counted = h .counted ∙ ap (λ (x : ℕ). h .taken + x) (taken-next isNonResidue (λ j. fpow j n) (p - k) c k (h .columns) (omega arith) short) ∙ rw (e, ← add-assoc);
     }
