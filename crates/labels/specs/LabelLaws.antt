@@ -124,7 +124,7 @@ found-taken n c = search-taken isNonResidue (λ k. fpow k n) (p - 2) c 2 firstCo
 padded-at : (xs : List ℕ) (i : ℕ) → i < length xs → getD (columnWords xs) i 0 ≡ getD xs i 0
 padded-at xs i h = List·getD-append xs (replicate (mostColumns - length xs) 0) 0 i h
 
--- and of one that has none
+-- a list of zeros is read as 0 everywhere, past its end too
 zero-at : (n i : ℕ) → getD (replicate {A = ℕ} n 0) i 0 ≡ 0
 zero-at n i = go (decLt i n)
   where
@@ -132,6 +132,7 @@ zero-at n i = go (decLt i n)
     go (yes h) = getD-replicate n i 0 0 h
     go (no h) = List·getD-eq-default (replicate {A = ℕ} n 0) 0 (rw length-replicate (omega arith))
 
+-- the word of a column that has none
 padded-behind : (xs : List ℕ) (i : ℕ) → length xs ≤ i → getD (columnWords xs) i 0 ≡ 0
 padded-behind xs i h =
     let e : i ≡ length xs + (i - length xs) = omega arith in
@@ -165,7 +166,7 @@ module _ (n c : ℕ) (z : representativesNumber n c ≡ 0) where
         ap (λ (w : List ℕ). getD w i 0) (a .powers) ∙ padded-behind (found n c .powers) i (omega (arith, a .many, f .beside)),
       )
 
-  -- and no column but column 0 got its representative without a power that counts
+  -- no column but column 0 got its representative without a power that counts
   pub taken-enough : c - 1 ≤ takenOf n c
   taken-enough = let a = accepted-search n c z in omega (arith, a .many, a .taken, found-taken n c)
 

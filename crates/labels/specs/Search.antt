@@ -149,7 +149,7 @@ module _ (test : ℕ → Bool) (power : ℕ → ℕ) where
       go true e m = rw e (omega (arith, m, tried-taken k s))
       go false e m = rw e (omega arith)
 
-  -- and the search ends where c columns have theirs
+  -- the search ends where c columns have theirs
   pub search-most : (fuel c k : ℕ) (s : Columns) → length (s .values) ≤ c → length (searchFrom test power fuel c k s .values) ≤ c
   unfolding searchFrom
   search-most zero c k s h = h

@@ -1,4 +1,4 @@
--- `labels::no_representatives` meets its contract.
+-- `labels::no_representatives` meets its contract, which is the record that it makes.
 -- Assumes nothing.
 use mathlib.Core.Path.{refl}
 use Rattle.labels.proofs.no_representatives.Statement.{statement}

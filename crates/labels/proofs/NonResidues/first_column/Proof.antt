@@ -1,4 +1,4 @@
--- `labels::NonResidues::first_column` meets its contract.
+-- `labels::NonResidues::first_column` meets its contract, by computation: two words are set in arrays of zeros.
 -- Assumes nothing.
 use borrow.Author.Needs.{needs}
 use mathlib.Core.Path.{refl}
