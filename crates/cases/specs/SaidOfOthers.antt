@@ -19,6 +19,7 @@ use Rattle.labels.specs.Labels.{searchNumber, found, searchFrom}
 use Rattle.labels.specs.Ranges.{rangesFit}
 use Rattle.selector.specs.Gates.{constantsOf, degreeAt, placedFrom, comesBefore, inserted, sorted, greatest}
 use Rattle.selector.specs.MadeUp.{wanted}
+use Rattle.selector.specs.Markers.{markerEnds, noughts}
 use Rattle.selector.specs.Nodes.{mostLevels, nodeSlots, nodeWords, treeAt}
 use Rattle.selector.specs.NodeLaws.{own-tree}
 use Rattle.selector.specs.Refusals.{wordsFit, recordNumber, recordsNumber, someKind, lookupNumber, kindsNumber, constantsNumber, gatesNumber}
@@ -43,7 +44,7 @@ use Rattle.pieces.specs.Calls.{Call, rows, sWords, cellWords, tableWords, finis
 use Rattle.pieces.specs.Whole.{Circuit, columnsOf, namesAt, lastOf, firstOf, copyAt, scratchAt, laidOver}
 use Rattle.columns.specs.Intake.{labelsOf, storeOf}
 use Rattle.claim.specs.Chain.{Kept, answer}
-use Rattle.claim.specs.Statement.{product, noughts, RowOf, Stands, Has, SameColumns, Right, settingFor, kept, Finished}
+use Rattle.claim.specs.Statement.{product, RowOf, Stands, Has, SameColumns, Right, settingFor, kept, Finished}
 use Rattle.claim.specs.Model.{circuitBy, FinishesBy}
 use Rattle.claim.specs.Theorem.{claim}
 use Rattle.cases.specs.Columns.{settingWith, setting-known, kept-known, path-of, known-fault, old, lone, path₉, one, nop, two, p9-calls, p9-refused, x₉, accepts₉, known₉, found₉, labels₉, opens₉, p9}
@@ -127,12 +128,12 @@ opensₗ w = refl
 
 -- by the sections' rules the finishing is accepted, and the circuit is this one
 runsₗ : FinishesBy xₗ callsₗ (fresh xₗ (before-hand 9)) × (circuitBy xₗ callsₗ (fresh xₗ (before-hand 9)) ≡ circuitₗ)
-unfolding planₗ tree before-hand table constantsOf pathTo wanted orNumber stands countsFit readBy rowsOf firstFault allBelow put padded putLines rowFault rowsNumber rowLines rowsWritten marked sWordFault sWordsNumber sWordsWritten cellFault cellsNumber roomForCells firstSeen seenAgain placeCell cellsRun tablesOf tableFault tablesNumber tablesWritten tableLines entries sumRows everyFrom complete allUsed variableFine scratchFine finishNumber writeBack finishFrom number taken after circuitBy
+unfolding planₗ tree before-hand table constantsOf pathTo wanted markerEnds noughts orNumber stands countsFit readBy rowsOf firstFault allBelow put padded putLines rowFault rowsNumber rowLines rowsWritten marked sWordFault sWordsNumber sWordsWritten cellFault cellsNumber roomForCells firstSeen seenAgain placeCell cellsRun tablesOf tableFault tablesNumber tablesWritten tableLines entries sumRows everyFrom complete allUsed variableFine scratchFine finishNumber writeBack finishFrom number taken after circuitBy
 runsₗ = (inr (inr (inr (inr (inl (refl, refl))))), refl)
 
 -- so it is for the list cut in another way
 runs-cut : FinishesBy xₗ cutₗ (fresh xₗ (before-hand 8)) × (circuitBy xₗ cutₗ (fresh xₗ (before-hand 8)) ≡ circuitₗ)
-unfolding planₗ tree before-hand table constantsOf pathTo wanted orNumber stands countsFit readBy rowsOf firstFault allBelow put padded putLines rowFault rowsNumber rowLines rowsWritten marked sWordFault sWordsNumber sWordsWritten cellFault cellsNumber roomForCells firstSeen seenAgain placeCell cellsRun tablesOf tableFault tablesNumber tablesWritten tableLines entries sumRows everyFrom complete allUsed variableFine scratchFine finishNumber writeBack finishFrom number taken after circuitBy
+unfolding planₗ tree before-hand table constantsOf pathTo wanted markerEnds noughts orNumber stands countsFit readBy rowsOf firstFault allBelow put padded putLines rowFault rowsNumber rowLines rowsWritten marked sWordFault sWordsNumber sWordsWritten cellFault cellsNumber roomForCells firstSeen seenAgain placeCell cellsRun tablesOf tableFault tablesNumber tablesWritten tableLines entries sumRows everyFrom complete allUsed variableFine scratchFine finishNumber writeBack finishFrom number taken after circuitBy
 runs-cut = (inr (inr (inr (inr (inr (inr (inr (inr (inr (inr (inr (inl (refl, refl)))))))))))), refl)
 
 abbrev constantsₗ : List ℕ
@@ -145,7 +146,7 @@ abbrev leftₗ : Store
 leftₗ = record { constants = constantsₗ; cells = run xₗ callsₗ (fresh xₗ (before-hand 9)) .store .cells; tables = columnsₗ }
 
 left-knownₗ : run xₗ callsₗ (fresh xₗ (before-hand 9)) .store ≡ leftₗ
-unfolding planₗ tree before-hand table constantsOf pathTo wanted orNumber stands countsFit readBy rowsOf firstFault allBelow put padded putLines rowFault rowsNumber rowLines rowsWritten marked sWordFault sWordsNumber sWordsWritten cellFault cellsNumber roomForCells firstSeen seenAgain placeCell cellsRun tablesOf tableFault tablesNumber tablesWritten tableLines entries sumRows everyFrom complete allUsed variableFine scratchFine finishNumber writeBack finishFrom number taken after run
+unfolding planₗ tree before-hand table constantsOf pathTo wanted markerEnds noughts orNumber stands countsFit readBy rowsOf firstFault allBelow put padded putLines rowFault rowsNumber rowLines rowsWritten marked sWordFault sWordsNumber sWordsWritten cellFault cellsNumber roomForCells firstSeen seenAgain placeCell cellsRun tablesOf tableFault tablesNumber tablesWritten tableLines entries sumRows everyFrom complete allUsed variableFine scratchFine finishNumber writeBack finishFrom number taken after run
 left-knownₗ = refl
 
 -- the claim, at this circuit
@@ -158,6 +159,9 @@ recordsₗ = refl
 
 row-2 : RowOf rowsₗ 2 2
 row-2 = record { many = 0; words = []; record-is = ap (λ (ts : List Read). getD ts 2 cut) recordsₗ }
+
+row-1 : RowOf rowsₗ 1 1
+row-1 = record { many = 0; words = []; record-is = ap (λ (ts : List Read). getD ts 1 cut) recordsₗ }
 
 stacked : tablesOf tablesₗ ≡ whole 1 0 [] ∷ whole 1 2 (30 ∷ 31 ∷ []) ∷ []
 unfolding readBy tablesOf
@@ -197,6 +201,15 @@ dropped-0 = rightₗ .dropped-product 2 2 0 (omega arith) row-2 refl (omega arit
 dropped-1 : product (0 ∷ []) (wordₗ 2) 0 ≡ noughts (0 ∷ [])
 unfolding planₗ tree pathTo wanted
 dropped-1 = rightₗ .dropped-product 2 2 1 (omega arith) row-2 refl (omega arith)
+
+-- and of the evaluated gate 0 in that row, and in the row of the kind 1 gate
+off-2 : product (1 ∷ []) (wordₗ 2) 0 ≡ 0
+unfolding planₗ tree pathTo
+off-2 = rightₗ .evaluated-product 2 2 0 (omega arith) row-2 (omega arith) refl (λ z. omega (arith, z))
+
+off-1 : product (1 ∷ []) (wordₗ 1) 0 ≡ 0
+unfolding planₗ tree pathTo
+off-1 = rightₗ .evaluated-product 1 1 0 (omega arith) row-1 (omega arith) refl (λ z. omega (arith, z))
 
 nought-0 : noughts (1 ∷ []) ≡ 0
 unfolding noughts
@@ -355,6 +368,9 @@ pub record SaidOfOthers : Type 0 where
   -- "In a kind 2 row of a longer list the product is 1 for the all-0 path only": row 2 names gate 2
   pub not-all-0 : product (1 ∷ []) (wordₗ 2) 0 ≡ 0
   pub all-0 : product (0 ∷ []) (wordₗ 2) 0 ≡ 1
+  -- 02, Change 4: "in every row no evaluated gate is on but the row's own": gate 0 in the rows of gates 2 and 1
+  pub off-in-dropped : product (1 ∷ []) (wordₗ 2) 0 ≡ 0
+  pub off-in-marker : product (1 ∷ []) (wordₗ 1) 0 ≡ 0
   -- "the S columns follow"
   pub s-words : (getD constantsₗ 8 0 ≡ 21) × (getD constantsₗ 11 0 ≡ 24)
   pub s-words-4 : length {A = ℕ} (21 ∷ 22 ∷ 23 ∷ 24 ∷ []) ≡ 4
@@ -380,6 +396,8 @@ others-say =
     record {
       not-all-0 = dropped-0 ∙ nought-0;
       all-0 = dropped-1 ∙ nought-1;
+      off-in-dropped = off-2;
+      off-in-marker = off-1;
       s-words = (s-word 0 (omega arith), s-word 3 (omega arith));
       s-words-4 = all-words;
       there = stands-31;

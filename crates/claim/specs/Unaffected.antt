@@ -35,6 +35,8 @@ withPath path x =
       path = path;
       own = x .own;
       placed = x .placed;
+      evaluated = x .evaluated;
+      blocked = x .blocked;
       labelled = x .labelled;
       labels = x .labels;
     }

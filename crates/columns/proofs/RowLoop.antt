@@ -8,6 +8,10 @@ use native.Mathlib.Decide.{ℕ-discrete}
 use native.Mathlib.Omega.{arith}
 use lib.ListN.{length, getD, set, take, drop, length-drop}
 use borrow.Author.Tests.{eq-eqb, ne-eqb}
+use lib.Dec.{eqb}
+use mathlib.Core.Bool.{Bool, true, false}
+use Rattle.base.specs.Pick.{pick}
+use Rattle.pieces.specs.Setting.{barred}
 use Rattle.pieces.specs.Records.{Read, whole, rowSize, rowsOf, firstFault}
 use Rattle.pieces.specs.Front.{front}
 use Rattle.pieces.specs.Rows.{Gates, gatesOf, rowFault, rowsFault, marked}
@@ -101,13 +105,17 @@ pub record GatesOf (q : Plan) (r : GateRows) : Type 0 where
   pub spells-paths : Spells (r .many) (planPath q) (r .bits) (r .steps)
   pub room : Fits (toldBy r) (q .constants) (r .steps)
 
+marked-bar : (t : Bool) → eqb (pick t 1 0) 1 ≡ t
+marked-bar true = refl
+marked-bar false = refl
+
 pub gates-of : (q : Plan) (r : GateRows) → planFault q ≡ 0 → r ≡ gateRowsAnswer q → GatesOf q r
 gates-of q r e a =
     let w = gate-words q e r a in
     let m = gates-many q e r a in
     let listed : (g : ℕ) → g < r .many → g < q .«gate_count» = λ g h. omega (arith, m) in
     record {
-      alike = record { many-same = m; own-same = λ g h. w g (listed g h) .own };
+      alike = record { many-same = m; own-same = λ g h. w g (listed g h) .own; bar-same = λ g h. ap (λ (k : ℕ). eqb k 1) (w g (listed g h) .barred) ∙ marked-bar (barred (settingOf q) g) };
       spells-paths = record { spells = λ g h. w g (listed g h) .path };
       room = record { fits = λ g h. let k = listed g h in omega (arith, w g k .path .steps-are, w g k .own, sound q e .fits g k) };
     }

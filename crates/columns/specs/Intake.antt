@@ -9,7 +9,8 @@ use Rattle.base.specs.Pick.{pick}
 use Rattle.base.specs.Tables.{table}
 use Rattle.labels.specs.Labels.{searchNumber, representativesOf, labelOf}
 use Rattle.parameters.specs.Lookup.{modeOf, widthOf}
-use Rattle.tree.specs.Plan.{zeroPlan, planFault, planOwn, planPath, planPlaced}
+use Rattle.selector.specs.Gates.{kindOf}
+use Rattle.tree.specs.Plan.{zeroPlan, gatesGiven, planBlocked, planFault, planOwn, planPath, planPlaced}
 use Rattle.tree.specs.declared.plan.Plan.{Plan}
 use Rattle.pieces.specs.Setting.{Setting, State, Store, Cols, cols}
 use Rattle.pieces.specs.Opening.{openNumber, openStore, openState, zeroState}
@@ -42,6 +43,8 @@ settingOf q =
       path = planPath q;
       own = planOwn q;
       placed = planPlaced q;
+      evaluated = λ g. eqb (kindOf (gatesGiven q) g) 0;
+      blocked = planBlocked q;
       labelled = searchNumber (q .trace) (q .copy);
       labels = labelsOf (q .trace) (q .copy);
     }

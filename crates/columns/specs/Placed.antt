@@ -5,6 +5,7 @@ use mathlib.Core.Path.{_≡_}
 use mathlib.Core.List.{List, _++_, map}
 use Prim.Native.Nat.{ℕ, _+_, _≤_, _<_}
 use lib.ListN.{length, getD, drop}
+use lib.Dec.{eqb}
 use Rattle.base.specs.Limits.{mostGates}
 use Rattle.pieces.specs.Records.{Read, rowsOf}
 use Rattle.pieces.specs.Rows.{Gates, rowsFault, rowLines}
@@ -13,13 +14,13 @@ use Rattle.base.specs.Digits.{Spelled}
 use Rattle.tree.specs.declared.gate_rows.GateRows.{GateRows}
 use Rattle.columns.specs.Lines.{cutLines}
 
--- so many gates, with the number of constants of each
-abbrev pub gatesBy : ℕ → List ℕ → Gates
-gatesBy many own = record { many = many; own = λ g. getD own g 0 }
+-- so many gates, with the number of constants of each and a 1 for each whose rows are turned away
+abbrev pub gatesBy : ℕ → List ℕ → List ℕ → Gates
+gatesBy many own barred = record { many = many; own = λ g. getD own g 0; bar = λ g. eqb (getD barred g 0) 1 }
 
 -- the same, as a plan answers for its gates
 abbrev pub toldBy : GateRows → Gates
-toldBy r = gatesBy (r .many) (r .own)
+toldBy r = gatesBy (r .many) (r .own) (r .barred)
 
 -- the words `bits` and `steps` spell the paths of `many` gates
 pub record Spells (many : ℕ) (path : ℕ → List ℕ) (bits steps : List ℕ) : Type 0 where

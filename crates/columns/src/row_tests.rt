@@ -11,10 +11,10 @@ use crate::records::all_below;
 use selector::Marks;
 
 // The number of the record at the front of the words, 0 where it has no fault. `own` has the
-// number of constants of each of the `many` gates.
-fn row_fault(many: u64, own: &Marks, trace: u64, row: u64, words: &[u64]) -> u64
+// number of constants of each of the `many` gates, `barred` a 1 for each whose rows are turned away.
+fn row_fault(many: u64, own: &Marks, barred: &Marks, trace: u64, row: u64, words: &[u64]) -> u64
     requires { ⌜ many ≤ mostGates ⌝ }
-    ensures { λ r. ⌜ r ≡ rowFault (gatesBy many (now (own .entry))) trace row (front rowSize (now (words .entry))) ⌝ }
+    ensures { λ r. ⌜ r ≡ rowFault (gatesBy many (now (own .entry)) (now (barred .entry))) trace row (front rowSize (now (words .entry))) ⌝ }
 {
     if words.len() < 2 {
         return 12;
@@ -30,6 +30,9 @@ fn row_fault(many: u64, own: &Marks, trace: u64, row: u64, words: &[u64]) -> u64
     }
     if words.len() - 2 < n as usize {
         return 12;
+    }
+    if barred[g] == 1 {
+        return 23;
     }
     let end = 2 + n as usize;
     if all_below(&words[2..end]) {
@@ -53,19 +56,20 @@ pub struct Tested {
 pub(crate) fn test_rows(
     many: u64,
     own: &Marks,
+    barred: &Marks,
     trace: u64,
     count: u64,
     piece: &[u64],
     used: &mut Marks,
 ) -> Tested
     requires { ⌜ (many ≤ mostGates) × (count ≤ trace) × (trace ≤ 65536) ⌝ }
-    ensures { λ r. ⌜ r .number ≡ rowsFault (gatesBy many (now (own .entry))) trace count (rowsOf (now (piece .entry))) ⌝ }
+    ensures { λ r. ⌜ r .number ≡ rowsFault (gatesBy many (now (own .entry)) (now (barred .entry))) trace count (rowsOf (now (piece .entry))) ⌝ }
     ensures { λ r. ⌜ (r .number ≡ 0 → (r .rows ≡ count + length (rowsOf (now (piece .entry)))) × (now (used .exit) ≡ marked (now (used .entry)) (rowsOf (now (piece .entry))))) ⌝ }
 {
     let mut row = count;
     let mut i = 0;
     while i < piece.len() {
-        let fault = row_fault(many, own, trace, row, &piece[i..]);
+        let fault = row_fault(many, own, barred, trace, row, &piece[i..]);
         if fault != 0 {
             return Tested {
                 number: fault,

@@ -75,7 +75,8 @@ fn test_pieces(
         };
     }
     let own = gates.own;
-    let tested = test_rows(gates.many, &own, plan.trace, 0, rows, used);
+    let barred = gates.barred;
+    let tested = test_rows(gates.many, &own, &barred, plan.trace, 0, rows, used);
     if tested.number != 0 {
         return tested;
     }

@@ -142,10 +142,12 @@ pub fn take_rows<'a>(
             return give_marked(10, counts, used);
         }
         let own = told.own;
+        let barred = told.barred;
         let mut marks = used;
         let tested = test_rows(
             told.many,
             &own,
+            &barred,
             outline.trace,
             counts.rows,
             piece,

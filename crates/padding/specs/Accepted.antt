@@ -2,7 +2,7 @@
 --
 -- Main statement: `padded-accepted`.
 use mathlib.Core.Path.{_≡_, refl, sym, ap, _∙_}
-use mathlib.Core.Bool.{Bool, true}
+use mathlib.Core.Bool.{Bool, false, true}
 use mathlib.Core.List.{List, [], _∷_, _++_}
 use Prim.Native.Nat.{ℕ, zero, suc, _+_, _-_, _*_, _≤_, _<_}
 use native.Mathlib.Omega.{arith}
@@ -30,22 +30,22 @@ use Rattle.listing.specs.Written.{Sound}
 use Rattle.writer.specs.Besides.{besides}
 use Rattle.padding.specs.Padding.{given, lengthOf, paddedSetting, fillerOf, padded}
 use Rattle.padding.specs.PaddingLaws.{Good, Numbers, length-covers, good-columns, good-numbers, padded-s, padded-c}
-use Rattle.padding.specs.Kept.{kept-rows}
+use Rattle.padding.specs.Kept.{filler-first, kept-rows}
 
 -- ---- rows: missing rows have no fault as long as they are below N
-same-rows : (gs : Gates) (N r m g : ℕ) → g < gs .many → r + m ≤ N → rowsFault gs N r (replicate m (whole g 0 [])) ≡ 0
+same-rows : (gs : Gates) (N r m g : ℕ) → g < gs .many → gs .bar g ≡ false → r + m ≤ N → rowsFault gs N r (replicate m (whole g 0 [])) ≡ 0
 unfolding firstFault allBelow
-same-rows gs N r zero g k h = refl
-same-rows gs N r (suc m) g k h =
-    fault-later (rowFault gs N) (λ r _. suc r) r (whole g 0 []) (replicate m (whole g 0 [])) (row-good gs N r g 0 [] (record { known = k; few = omega arith; small = refl; room = omega arith }))
-    ∙ same-rows gs N (suc r) m g k (omega arith)
+same-rows gs N r zero g k b h = refl
+same-rows gs N r (suc m) g k b h =
+    fault-later (rowFault gs N) (λ r _. suc r) r (whole g 0 []) (replicate m (whole g 0 [])) (row-good gs N r g 0 [] (record { known = k; few = omega arith; free = b; small = refl; room = omega arith }))
+    ∙ same-rows gs N (suc r) m g k b (omega arith)
 
-rows-filled : (gs : Gates) (N r m g : ℕ) (rs : List Read) → rowsFault gs N r rs ≡ 0 → g < gs .many → r + length rs + m ≤ N
+rows-filled : (gs : Gates) (N r m g : ℕ) (rs : List Read) → rowsFault gs N r rs ≡ 0 → g < gs .many → gs .bar g ≡ false → r + length rs + m ≤ N
     → rowsFault gs N r (rs ++ replicate m (whole g 0 [])) ≡ 0
-rows-filled gs N r m g [] e k h = same-rows gs N r m g k (omega arith)
-rows-filled gs N r m g (t ∷ rs) e k h =
+rows-filled gs N r m g [] e k b h = same-rows gs N r m g k b (omega arith)
+rows-filled gs N r m g (t ∷ rs) e k b h =
     let f = fault-head (rowFault gs N) (λ r _. suc r) r t rs e in
-    fault-later (rowFault gs N) (λ r _. suc r) r t (rs ++ replicate m (whole g 0 [])) (f .0) ∙ rows-filled gs N (suc r) m g rs (f .1) k (omega arith)
+    fault-later (rowFault gs N) (λ r _. suc r) r t (rs ++ replicate m (whole g 0 [])) (f .0) ∙ rows-filled gs N (suc r) m g rs (f .1) k b (omega arith)
 
 -- marking a gate again changes nothing
 marked-same : (u : List ℕ) (m g : ℕ) → marked u (replicate (suc m) (whole g 0 [])) ≡ set u g 1
@@ -147,7 +147,7 @@ module _ (w : Words) (q : Sound w) (g : Good w) where
       let f₂ = first-zero _ _ (f₁ .1) in
       let f₃ = first-zero _ _ (f₂ .1) in
       let R : rowsFault (gatesOf x) (x .trace) 0 (rowsOf (v .rows)) ≡ 0 =
-      ap (rowsFault (gatesOf x) (x .trace) 0) (kept-rows w q) ∙ rows-filled (gatesOf x) (x .trace) 0 m f (rowsOf (w .rows)) (f₁ .0) (omega (arith, g .listed, facts .gates-are)) (omega (arith, facts .trace-is, length-covers w .0))
+      ap (rowsFault (gatesOf x) (x .trace) 0) (kept-rows w q) ∙ rows-filled (gatesOf x) (x .trace) 0 m f (rowsOf (w .rows)) (f₁ .0) (omega (arith, g .listed, facts .gates-are)) (facts .marker-free f (filler-first (w .gates) .1 (g .listed))) (omega (arith, facts .trace-is, length-covers w .0))
       in
       let S : sWordsFault (x .special * x .trace) 0 (v .sWords) ≡ 0 =
       words-fine (x .special * x .trace) 0 (v .sWords)

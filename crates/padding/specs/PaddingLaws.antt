@@ -12,17 +12,18 @@ use lib.Dec.{leb, ltb, eqb}
 use borrow.Author.Tests.{leb-true, ltb-true, eqb-true, le-leb}
 use Rattle.base.specs.Exponent.{exponent-enough}
 use Rattle.base.specs.Firsts.{first-zero}
-use Rattle.base.specs.Pick.{pick, pick-zero, both, both-true}
+use Rattle.base.specs.Pick.{pick, pick-yes, pick-zero, both, both-true}
 use Rattle.labels.specs.Ranges.{longestTrace, mostColumns, traceFits}
 use Rattle.labels.specs.RangesLaws.{ranges-fit}
 use Rattle.parameters.specs.Parameters.{parameterWords, parametersAt, parametersNumber}
 use Rattle.parameters.specs.declared.parameters.Parameters.{Parameters}
 use Rattle.parameters.specs.ParametersLaws.{in-range}
-use Rattle.selector.specs.Gates.{gateWords}
+use Rattle.selector.specs.Gates.{gateWords, kindOf}
 use Rattle.selector.specs.Refusals.{gateCount}
-use Rattle.tree.specs.Plan.{planNumber, wordsNumber}
+use Rattle.tree.specs.Plan.{planNumber, planned, wordsNumber}
+use Rattle.tree.specs.SoundLaws.{kind-placed}
 use Rattle.tree.specs.PlanLaws.{planned-fields}
-use Rattle.pieces.specs.Setting.{Setting}
+use Rattle.pieces.specs.Setting.{Setting, barred}
 use Rattle.pieces.specs.Records.{Read, whole, cut, readBy, rowSize, rowsOf, tablesOf}
 use Rattle.base.specs.Each.{Each}
 use Rattle.pieces.specs.RecordLaws.{Whole, read-append}
@@ -246,6 +247,8 @@ pub record Numbers (n : ℕ) (p : Parameters) (gs : List ℕ) (x : Setting) : Ty
   pub gates-are : x .gates ≡ gateCount gs
   pub special-is : x .special ≡ p .specialised
   pub copied-is : x .copied ≡ p .copy
+  -- no row of a kind 1 gate is turned away
+  pub marker-free : (g : ℕ) → kindOf gs g ≡ 1 → barred x g ≡ false
 
 plan-numbers : (n : ℕ) (p : Parameters) (gs : List ℕ) → planNumber (withTrace n p) gs ≡ 0 → Numbers n p gs (settingFor (withTrace n p) gs)
 plan-numbers n p gs e =
@@ -256,6 +259,7 @@ plan-numbers n p gs e =
       gates-are = f .count;
       special-is = ap (λ (y : Parameters). y .specialised) q;
       copied-is = ap (λ (y : Parameters). y .copy) q;
+      marker-free = λ g k. pick-yes (settingFor (withTrace n p) gs .placed g) _ _ (kind-placed (planned (withTrace n p) gs) g (λ z. omega (arith, z, k, ap (λ (ws : List ℕ). kindOf ws g) (f .gates))));
     }
 
 length-in-range : (w : Words) → lengthOf w ≤ longestTrace → traceFits (lengthOf w) ≡ true

@@ -9,6 +9,7 @@ use Rattle.base.specs.Firsts.{orNumber}
 use Rattle.labels.specs.Labels.{found, searchFrom, searchNumber}
 use Rattle.labels.specs.Ranges.{rangesFit}
 use Rattle.selector.specs.Gates.{comesBefore, constantsOf, degreeAt, greatest, inserted, placedFrom, sorted}
+use Rattle.selector.specs.MadeUp.{wanted}
 use Rattle.selector.specs.Refusals.{constantsNumber, gatesNumber, kindsNumber, lookupNumber, recordNumber, recordsNumber, someKind, wordsFit}
 use Rattle.selector.specs.Search.{constantsOver, degreeOver, firstBound, firstTarget, mayStand, planTree, searchTree, treeWithin}
 use Rattle.selector.specs.Tree.{grown, offer, offerAll}
@@ -41,7 +42,7 @@ circuit gates tables =
 two-rows : (padNumber (circuit (0 ∷ 2 ∷ 1 ∷ 1 ∷ 0 ∷ 0 ∷ []) []) ≡ 0)
     × (written (padded (circuit (0 ∷ 2 ∷ 1 ∷ 1 ∷ 0 ∷ 0 ∷ []) []))
     ≡ 8 ∷ 4 ∷ 1 ∷ 1 ∷ 0 ∷ 2 ∷ 0 ∷ 0 ∷ 0 ∷ 2 ∷ 0 ∷ 2 ∷ 1 ∷ 1 ∷ 0 ∷ 0 ∷ 4 ∷ 0 ∷ 1 ∷ 5 ∷ 0 ∷ 1 ∷ 6 ∷ 1 ∷ 0 ∷ 1 ∷ 0 ∷ 0 ∷ 4 ∷ 0 ∷ 1 ∷ 0 ∷ 9223372036854775808 ∷ 0 ∷ [])
-unfolding circuit fillers besides written orNumber exponentFrom rangesFit rangeNumber flagNumber parametersNumber lookupOf wordsFit recordNumber recordsNumber someKind lookupNumber kindsNumber constantsNumber gatesNumber wordsNumber planNumber planned constantsOf degreeAt placedFrom comesBefore inserted sorted greatest offer offerAll grown mayStand firstBound firstTarget treeWithin searchTree planTree degreeOver constantsOver rowsOf tablesOf readBy sumRows padNumber planningNumber least lengthOf fillerFrom searchNumber found searchFrom firstFault rowFault allBelow cellFault marked allUsed everyFrom unpaddedNumber unpaddedLast
+unfolding circuit fillers besides written orNumber exponentFrom rangesFit rangeNumber flagNumber parametersNumber lookupOf wordsFit recordNumber recordsNumber someKind lookupNumber kindsNumber constantsNumber gatesNumber wordsNumber planNumber planned constantsOf degreeAt placedFrom comesBefore inserted sorted greatest offer offerAll grown mayStand firstBound firstTarget treeWithin searchTree planTree degreeOver constantsOver rowsOf tablesOf readBy sumRows padNumber planningNumber least lengthOf fillerFrom searchNumber found searchFrom firstFault rowFault wanted allBelow cellFault marked allUsed everyFrom unpaddedNumber unpaddedLast
 two-rows = (refl, refl)
 
 -- "21 no kind 1 gate is listed", also where the length passes 65,536

@@ -5,7 +5,7 @@
 -- section are kept), `good-rows`, `good-tables`, `good-cells` (what an accepted record is), `fresh-consts`, `fresh-tabled` (after opening).
 use mathlib.Core.Path.{_≡_, refl, sym, ap, _∙_}
 use mathlib.Core.List.{List, [], _∷_, _++_, append-assoc}
-use mathlib.Core.Bool.{Bool}
+use mathlib.Core.Bool.{Bool, false}
 use Prim.Native.Nat.{ℕ, zero, suc, _+_, _-_, _*_, _≤_, _<_}
 use native.Mathlib.Nat.{add-zero, add-suc, suc-add}
 use native.Mathlib.Decide.{decLt}
@@ -27,7 +27,7 @@ use Rattle.pieces.specs.FaultLaws.{row-cut, row-fine, table-cut, table-f
 -- ---- what an accepted record is
 abbrev pub GoodRow : Gates → Read → Type 0
 GoodRow gs cut = ⊥
-GoodRow gs (whole g n cs) = (g < gs .many) × (n ≤ gs .own g)
+GoodRow gs (whole g n cs) = (g < gs .many) × (n ≤ gs .own g) × (gs .bar g ≡ false)
 
 abbrev pub GoodTable : ℕ → Read → Type 0
 GoodTable W cut = ⊥
@@ -38,7 +38,7 @@ GoodCell M w = w < placeholder → indexOf w < M
 
 good-row : (gs : Gates) (N r : ℕ) (t : Read) → rowFault gs N r t ≡ 0 → GoodRow gs t
 good-row gs N r cut e = absurd (omega (arith, e, row-cut gs N r))
-good-row gs N r (whole g n cs) e = let f = row-fine gs N r g n cs e in (f .known, f .few)
+good-row gs N r (whole g n cs) e = let f = row-fine gs N r g n cs e in (f .known, f .few, f .free)
 
 pub good-rows : (gs : Gates) (N r : ℕ) (ts : List Read) → rowsFault gs N r ts ≡ 0 → Each (GoodRow gs) ts
 good-rows gs N r ts e = fault-each (rowFault gs N) (λ r _. suc r) (GoodRow gs) (good-row gs N) r ts e

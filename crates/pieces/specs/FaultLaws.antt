@@ -25,6 +25,7 @@ use Rattle.pieces.specs.RecordLaws.{fault-head, first-same, front-cut, f
 pub record RowFine (gs : Gates) (N r g n : ℕ) (cs : List ℕ) : Type 0 where
   pub known : g < gs .many
   pub few : n ≤ gs .own g
+  pub free : gs .bar g ≡ false
   pub small : allBelow p cs ≡ true
   pub room : r < N
 
@@ -42,26 +43,37 @@ module _ (gs : Gates) (N r : ℕ) where
     unfolding rowFault
     row-long h k = rw (lt-ltb g (gs .many) h, lt-leb n (gs .own g) k)
 
-    pub row-large : g < gs .many → n ≤ gs .own g → allBelow p cs ≡ false → rowFault gs N r (whole g n cs) ≡ 11
+    pub row-barred : g < gs .many → n ≤ gs .own g → gs .bar g ≡ true → rowFault gs N r (whole g n cs) ≡ 23
     unfolding rowFault
-    row-large h k b = rw (lt-ltb g (gs .many) h, le-leb n (gs .own g) k, b)
+    row-barred h k b = rw (lt-ltb g (gs .many) h, le-leb n (gs .own g) k, b)
 
-    pub row-past : g < gs .many → n ≤ gs .own g → allBelow p cs ≡ true → N ≤ r → rowFault gs N r (whole g n cs) ≡ 13
+    pub row-large : g < gs .many → n ≤ gs .own g → gs .bar g ≡ false → allBelow p cs ≡ false → rowFault gs N r (whole g n cs) ≡ 11
     unfolding rowFault
-    row-past h k b l = rw (lt-ltb g (gs .many) h, le-leb n (gs .own g) k, b, le-ltb r N l)
+    row-large h k f b = rw (lt-ltb g (gs .many) h, le-leb n (gs .own g) k, f, b)
+
+    pub row-past : g < gs .many → n ≤ gs .own g → gs .bar g ≡ false → allBelow p cs ≡ true → N ≤ r → rowFault gs N r (whole g n cs) ≡ 13
+    unfolding rowFault
+    row-past h k f b l = rw (lt-ltb g (gs .many) h, le-leb n (gs .own g) k, f, b, le-ltb r N l)
 
     pub row-good : RowFine gs N r g n cs → rowFault gs N r (whole g n cs) ≡ 0
     unfolding rowFault
-    row-good f = rw (lt-ltb g (gs .many) (f .known), le-leb n (gs .own g) (f .few), f .small, lt-ltb r N (f .room))
+    row-good f = rw (lt-ltb g (gs .many) (f .known), le-leb n (gs .own g) (f .few), f .free, f .small, lt-ltb r N (f .room))
 
     pub row-fine : rowFault gs N r (whole g n cs) ≡ 0 → RowFine gs N r g n cs
     unfolding rowFault
     row-fine e =
-        let a = pick-zero (ltb g (gs .many)) (pick (leb n (gs .own g)) (pick (allBelow p cs) (pick (ltb r N) 0 13) 11) 12) 12 (λ q. omega arith) e in
-        let b = pick-zero (leb n (gs .own g)) (pick (allBelow p cs) (pick (ltb r N) 0 13) 11) 12 (λ q. omega arith) (a .1) in
-        let c = pick-zero (allBelow p cs) (pick (ltb r N) 0 13) 11 (λ q. omega arith) (b .1) in
+        let t3 : ℕ = pick (allBelow p cs) (pick (ltb r N) 0 13) 11 in
+        let t2 : ℕ = pick (gs .bar g) 23 t3 in
+        let a = pick-zero (ltb g (gs .many)) (pick (leb n (gs .own g)) t2 12) 12 (λ q. omega arith) e in
+        let b = pick-zero (leb n (gs .own g)) t2 12 (λ q. omega arith) (a .1) in
+        let f = not-barred (gs .bar g) t3 (b .1) in
+        let c = pick-zero (allBelow p cs) (pick (ltb r N) 0 13) 11 (λ q. omega arith) (f .1) in
         let d = pick-zero (ltb r N) 0 13 (λ q. omega arith) (c .1) in
-        record { known = ltb-true g (gs .many) (a .0); few = leb-true n (gs .own g) (b .0); small = c .0; room = ltb-true r N (d .0) }
+        record { known = ltb-true g (gs .many) (a .0); few = leb-true n (gs .own g) (b .0); free = f .0; small = c .0; room = ltb-true r N (d .0) }
+      where
+        not-barred : (t : Bool) (m : ℕ) → pick t 23 m ≡ 0 → (t ≡ false) × (m ≡ 0)
+        not-barred true m z = absurd (omega arith)
+        not-barred false m z = (refl, z)
 
 -- the record at the front of the words, by its first word and by its second: cut short or not, the number is 12
 module _ (gs : Gates) (N r : ℕ) (ws : List ℕ) (two : 2 ≤ length ws) where
@@ -91,6 +103,7 @@ rows-room gs N r (whole g n cs ∷ ts) h e =
 pub record Alike (a b : Gates) : Type 0 where
   pub many-same : a .many ≡ b .many
   pub own-same : (g : ℕ) → g < a .many → a .own g ≡ b .own g
+  pub bar-same : (g : ℕ) → g < a .many → a .bar g ≡ b .bar g
 
 row-alike : (a b : Gates) → Alike a b → (N r : ℕ) (t : Read) → rowFault a N r t ≡ rowFault b N r t
 unfolding rowFault
@@ -99,7 +112,7 @@ row-alike a b e N r (whole g n cs) = go (decLt g (a .many))
   where
     go : Dec (g < a .many) → rowFault a N r (whole g n cs) ≡ rowFault b N r (whole g n cs)
     go (no h) = row-unknown a N r g n cs (omega arith) ∙ sym (row-unknown b N r g n cs (omega (arith, e .many-same)))
-    go (yes h) = rw (e .many-same, e .own-same g h)
+    go (yes h) = rw (e .many-same, e .own-same g h, e .bar-same g h)
 
 -- only listed gates count
 pub rows-alike : (a b : Gates) → Alike a b → (N r : ℕ) (ts : List Read) → rowsFault a N r ts ≡ rowsFault b N r ts

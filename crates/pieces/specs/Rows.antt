@@ -1,13 +1,14 @@
 -- 01, 'Columns by pieces': rows.
 --
 -- Main definitions: `Gates`, `gatesOf`, `rowFault`, `rowsFault`, `rowsNumber`, `rowLines`, `rowsWritten`, `rowsState`.
+use mathlib.Core.Bool.{Bool}
 use mathlib.Core.List.{List, [], _∷_, _++_}
 use Prim.Native.Nat.{ℕ, suc, _+_}
 use lib.ListN.{length, set}
 use lib.Dec.{ltb, leb}
 use Rattle.base.specs.Pick.{pick}
 use Rattle.field.specs.Field.{p}
-use Rattle.pieces.specs.Setting.{Setting, State, constantRoom, stands}
+use Rattle.pieces.specs.Setting.{Setting, State, barred, constantRoom, stands}
 use Rattle.pieces.specs.Records.{Read, whole, cut, rowsOf, firstFault, allBelow}
 use Rattle.pieces.specs.Writing.{putLines}
 
@@ -15,15 +16,17 @@ use Rattle.pieces.specs.Writing.{putLines}
 pub record Gates : Type 0 where
   pub many : ℕ  -- how many are listed
   pub own : ℕ → ℕ  -- the number of constants that a gate has
+  pub bar : ℕ → Bool  -- the rows of the gate are turned away
 
 abbrev pub gatesOf : Setting → Gates
-gatesOf x = record { many = x .gates; own = x .own }
+gatesOf x = record { many = x .gates; own = x .own; bar = barred x }
 
--- "12 record cut short, gate unknown, or more constants than its gate has; 11 a word not below p; 13 past N." of row r, for N rows
+-- "12 record cut short, gate unknown, or more constants than its gate has; 11 a word not below p; 13 past N." of row r, for N rows. 02, Change 4: "23 .., tested
+-- for each row after 12."
 unfoldable pub rowFault : Gates → ℕ → ℕ → Read → ℕ
 rowFault gs N r cut = 12
 rowFault gs N r (whole g n cs) =
-    pick (ltb g (gs .many)) (pick (leb n (gs .own g)) (pick (allBelow p cs) (pick (ltb r N) 0 13) 11) 12) 12
+    pick (ltb g (gs .many)) (pick (leb n (gs .own g)) (pick (gs .bar g) 23 (pick (allBelow p cs) (pick (ltb r N) 0 13) 11)) 12) 12
 
 -- "Rows, first faulty record"
 abbrev pub rowsFault : Gates → ℕ → ℕ → List Read → ℕ

@@ -1,7 +1,7 @@
 -- 01, 'Columns by pieces': what a plan fixes for the columns, the state between calls, the lent buffers, and the test for a made-up state (19).
 --
--- Main definitions: `Setting`, `State`, `Store`, `Held`, the four rooms, `countsFit`, `stands`.
-use mathlib.Core.Bool.{Bool}
+-- Main definitions: `Setting`, `barred`, `State`, `Store`, `Held`, the four rooms, `countsFit`, `stands`.
+use mathlib.Core.Bool.{Bool, false}
 use mathlib.Core.List.{List}
 use Prim.Native.Nat.{ℕ, _+_, _*_}
 use lib.Dec.{leb, eqb}
@@ -21,8 +21,14 @@ pub record Setting : Type 0 where
   pub path : ℕ → List ℕ  -- of a gate, by its place in the list: "1 left, 0 right; a dropped gate's is empty"
   pub own : ℕ → ℕ  -- the number of constants that a gate has
   pub placed : ℕ → Bool  -- the gate stands at a leaf: "A gate list's only gate counts as placed."
+  pub evaluated : ℕ → Bool  -- the gate is of kind 0
+  pub blocked : Bool  -- the all-0 path is not of kind 1
   pub labelled : ℕ  -- 0, or the number with which the labels are refused
   pub labels : List ℕ  -- of all copy cells, column by column
+
+-- 02, Change 4: "a kind 2 row in a longer list whose all-0 path is not of kind 1": in a longer list just the gates of kind 2 are not placed
+abbrev pub barred : Setting → ℕ → Bool
+barred x g = pick (x .placed g) false (x .blocked)
 
 -- 01's state: what a call hands back and the next one gets. A variable is seen by its scratch words, not here.
 pub record State : Type 0 where

@@ -1,13 +1,15 @@
--- 01's worked circuits P5, P6 and P10, its runs of 64 and 65 gates, and a gate without selector, by computation.
+-- 01's worked circuits P5, P6 and P10, its runs of 64 and 65 gates, a gate without selector, and whose the all-0 path is, by computation.
 --
--- Main statements: `p5`, `p6`, `p10`, `one-placed`, `sixty-four`.
+-- Main statements: `p5`, `p6`, `p10`, `one-placed`, `markers`, `sixty-four`.
 use Prim.Native.Nat.{_-_, suc, zero, ℕ}
+use mathlib.Core.Bool.{Bool, false, true}
 use mathlib.Core.List.{List, [], _∷_}
 use mathlib.Core.Option.{Option, none, some}
 use mathlib.Core.Path.{_≡_, refl}
 use Rattle.base.specs.Exponent.{exponentFrom}
 use Rattle.selector.specs.Gates.{comesBefore, constantsOf, degreeAt, greatest, inserted, placedFrom, placedGates, sorted}
-use Rattle.selector.specs.Paths.{Selector, aPath, noSelector, pathTo, selected}
+use Rattle.selector.specs.Markers.{blockedBy, markerEnds, noughts}
+use Rattle.selector.specs.Paths.{Selector, aPath, noSelector, pathOf, pathTo, selected}
 use Rattle.selector.specs.Search.{constantsOver, degreeOver, firstBound, firstTarget, mayStand, planTree, searchTree, targets, treeD, treeF, treeK, treeWithin}
 use Rattle.selector.specs.Tree.{Tree, fork, grown, leaf, offer, offerAll, size}
 
@@ -43,6 +45,15 @@ p10 = record { tree = refl; degree = refl; constants = refl; divisor = refl; way
 pub one-placed : Planning (0 ∷ 64 ∷ 0 ∷ 2 ∷ 0 ∷ 0 ∷ []) 2 (leaf 0) 64 0 64 (aPath [] ∷ noSelector ∷ [])
 unfolding constantsOf degreeAt placedFrom comesBefore inserted sorted greatest exponentFrom offer offerAll grown mayStand firstBound firstTarget treeWithin searchTree planTree degreeOver constantsOver pathTo selectorsFrom
 one-placed = record { tree = refl; degree = refl; constants = refl; divisor = refl; ways = refl }
+
+-- 02, Change 4: whether the all-0 path is of another kind than 1, at the end of paths 1, 01, 00
+abbrev blocked : ℕ → Tree → Bool
+blocked k t = blockedBy (λ g. pathOf g t) (0 ∷ 2 ∷ 1 ∷ 0 ∷ 1 ∷ 0 ∷ k ∷ 0 ∷ 0 ∷ []) 3
+
+-- P6's, where a kind 1 gate stands there; an evaluated gate, the lookup gate, and a kind 1 gate that stands elsewhere
+markers : (blocked 1 (fork (leaf 0) (fork (leaf 1) (leaf 2))) ≡ false) × (blocked 0 (fork (leaf 0) (fork (leaf 1) (leaf 2))) ≡ true) × (blocked 3 (fork (leaf 0) (fork (leaf 1) (leaf 2))) ≡ true) × (blocked 1 (fork (leaf 0) (fork (leaf 2) (leaf 1))) ≡ true)
+unfolding noughts markerEnds pathTo
+markers = (refl, refl, refl, refl)
 
 -- "64 gates (0,2,0) placed at target 8; 65 give 8": no tree at half that target, and none at all for 65
 unfoldable pub alike : ℕ → List ℕ

@@ -3,6 +3,7 @@ pub mod Gates
 pub mod Tree
 pub mod Search
 pub mod Paths
+pub mod Markers
 pub mod Nodes
 pub mod Refusals
 pub mod MadeUp
@@ -15,6 +16,7 @@ pub mod SearchLaws
 pub mod NodeLaws
 pub mod MadeUpLaws
 pub mod PathLaws
+pub mod MarkerLaws
 pub mod Flat
 pub mod FlatLaws
 pub mod RunLaws

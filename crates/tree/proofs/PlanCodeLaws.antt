@@ -2,9 +2,9 @@
 use Prim.Native.Nat.{_*_, _+_, _-_, _<_, _≤_, suc, zero, ℕ}
 use borrow.Author.Tests.{eq-eqb, le-ltb, lt-ltb, ne-eqb}
 use lib.ListN.{getD, getD-replicate, length, length-replicate, replicate}
-use lib.Dec.{ltb}
+use lib.Dec.{eqb, ltb}
 use lib.Seq.{ext-getD, getD-take}
-use mathlib.Core.Bool.{false, true}
+use mathlib.Core.Bool.{Bool, false, true}
 use mathlib.Core.List.{List}
 use mathlib.Core.Logic.{_≢_}
 use mathlib.Core.Option.{Option, none, some}
@@ -14,8 +14,11 @@ use native.Mathlib.Omega.{arith}
 use Rattle.base.specs.Fills.{Filled}
 use Rattle.base.specs.Pick.{pick}
 use Rattle.base.specs.Tables.{table, table-at, table-length}
-use Rattle.selector.specs.Gates.{constantsOf, gateWords}
+use Rattle.selector.specs.Gates.{constantsOf, gateWords, kindOf}
 use Rattle.selector.specs.MadeUp.{wanted}
+use Rattle.selector.specs.MadeUpLaws.{wanted-few}
+use Rattle.selector.specs.MarkerLaws.{ends-same, noughts-bits}
+use Rattle.selector.specs.Markers.{markerEnds, noughts}
 use Rattle.selector.specs.Nodes.{mostLevels, treeAt}
 use Rattle.selector.specs.Paths.{bitsOf, pathTo, selected}
 use Rattle.base.specs.Limits.{mostGates}
@@ -23,10 +26,9 @@ use Rattle.selector.specs.Tree.{Tree}
 use Rattle.selector.specs.PathLaws.{unlisted-path}
 use Rattle.tree.proofs.PathsLaws.{Long, Read, placed-long, placed-read}
 use Rattle.tree.specs.Placements.{PathWords, pathWords, placed, spelled}
-use Rattle.tree.specs.Plan.{forListed, gatesGiven, pathAnswer, planFault, planPath, planSelection, planSelector, selectorAmong}
+use Rattle.tree.specs.Plan.{forListed, gatesGiven, pathAnswer, planBarred, planBlocked, planFault, planPath, planSelection, planSelector, selectorAmong}
 use Rattle.tree.specs.PlanLaws.{Faultless, fault-none}
-use Rattle.tree.specs.Selection.{selection-steps, selectionBare, selectionBits, selectionLength, selectionNumber, selectionOf}
-use Rattle.tree.specs.SoundLaws.{bare-word}
+use Rattle.tree.specs.Selection.{selection-steps, selectionBits, selectionLength, selectionNumber, selectionOf}
 use Rattle.tree.specs.declared.paths.Placement.{Placement}
 use Rattle.tree.specs.declared.plan.PathAnswer.{PathAnswer}
 use Rattle.tree.specs.declared.plan.Plan.{Plan}
@@ -141,15 +143,45 @@ own-given q x g h =
       getD-take (q .«gate_count» * gateWords) (q .gates) (g * gateWords + 2) 0 (omega arith),
     )
 
-bare-flag : (n : ℕ) → 1 - n ≡ pick (ltb 0 n) 0 1
-bare-flag zero = refl
-bare-flag (suc n) = rw (lt-ltb 0 (suc n) (omega arith)) (omega arith)
+kind-given : (q : Plan) (g : ℕ) → g < q .«gate_count» → kindOf (q .gates) g ≡ kindOf (gatesGiven q) g
+kind-given q g h = sym (getD-take (q .«gate_count» * gateWords) (q .gates) (g * gateWords) 0 (omega arith))
 
-pub bare-given : (q : Plan) → planFault q ≡ 0 → (g : ℕ) → g < q .«gate_count» → 1 - wanted (q .gates) (q .«gate_count») g ≡ selectionBare (planSelection q g)
+-- whether the all-0 path is a kind 1 gate's, by the bits of all paths
+pub blocked-given : (q : Plan) (b : ℕ) (bits : List ℕ) → planFault q ≡ 0 → bits ≡ forListed q (λ (g : ℕ). selectionBits (planSelection q g))
+    → b ≡ pick (markerEnds (λ (g : ℕ). eqb (getD bits g 0) 0) (q .gates) (q .«gate_count»)) 0 1 → b ≡ pick (planBlocked q) 1 0
+blocked-given q b bits f is e =
+    e ∙ ap (λ (t : Bool). pick t 0 1) (ends-same _ (λ (g : ℕ). eqb (noughts (planPath q g)) 1) (q .gates) (gatesGiven q) n (λ g h. (kind-given q g h, at g h)))
+    ∙ by (markerEnds (λ (g : ℕ). eqb (noughts (planPath q g)) 1) (gatesGiven q) n)
+  where
+    n : ℕ
+    n = q .«gate_count»
+
+    word : (g : ℕ) → g < n → getD bits g 0 ≡ bitsOf (planPath q g)
+    word g h =
+        ap (λ (l : List ℕ). getD l g 0) is ∙ table-at mostGates (λ (k : ℕ). pick (ltb k n) (selectionBits (planSelection q k)) 0) g (omega (arith, fault-none q f .few-gates))
+        ∙ ap (λ (t : Bool). pick t (selectionBits (planSelection q g)) 0) (lt-ltb g n h) ∙ selection-steps (planSelector q g) .0
+
+    at : (g : ℕ) → g < n → eqb (getD bits g 0) 0 ≡ eqb (noughts (planPath q g)) 1
+    at g h = ap (λ (w : ℕ). eqb w 0) (word g h) ∙ noughts-bits (planPath q g)
+
+    by : (t : Bool) → _≡_ {A = ℕ} (pick t 0 1) (pick (pick t false true) 1 0)
+    by true = refl
+    by false = refl
+
+-- and whose rows are turned away
+pub barred-given : (q : Plan) (b : ℕ) → b ≡ pick (planBlocked q) 1 0 → (g : ℕ) → g < q .«gate_count»
+    → b * (1 - wanted (q .gates) (q .«gate_count») g) ≡ pick (planBarred q g) 1 0
 unfolding wanted
-bare-given q f g h =
-    rw (← getD-take (q .«gate_count» * gateWords) (q .gates) (g * gateWords) 0 (omega arith))
-    (bare-flag (wanted (gatesGiven q) (q .«gate_count») g) ∙ sym (bare-word q f g h))
+barred-given q b e g h =
+    rw (← getD-take (q .«gate_count» * gateWords) (q .gates) (g * gateWords) 0 (omega arith), e)
+    (by (wanted (gatesGiven q) (q .«gate_count») g) (planBlocked q) (wanted-few (gatesGiven q) (q .«gate_count») g))
+  where
+    by : (w : ℕ) (t : Bool) → w ≤ 1 → pick t 1 0 * (1 - w) ≡ pick (pick (ltb 0 w) false t) 1 0
+    by zero true k = refl
+    by zero false k = refl
+    by (suc zero) true k = refl
+    by (suc zero) false k = refl
+    by (suc (suc w)) t k = absurd (omega arith)
 
 -- gate 0 is listed in a plan without a fault
 pub record Fine0 (p : Plan) (r : PathAnswer) : Type 0 where

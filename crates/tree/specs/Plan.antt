@@ -1,10 +1,10 @@
 -- 01, 'When a call is turned down' and 'Gates and tree': what planning, the test for a made-up plan, paths and the table-id index answer, for any arguments.
 --
--- Main definitions: `planNumber`, `planned`, `planIn`, `planFault`, `planSelector`, `pathAnswer`, `gateRowsAnswer`, `tableIdAnswer`.
+-- Main definitions: `planNumber`, `planned`, `planIn`, `planFault`, `planSelector`, `pathAnswer`, `planBarred`, `gateRowsAnswer`, `tableIdAnswer`.
 use Prim.Native.Nat.{_*_, ℕ}
 use lib.Dec.{eqb, leb, ltb}
 use lib.ListN.{drop, length, replicate, take}
-use mathlib.Core.Bool.{Bool}
+use mathlib.Core.Bool.{Bool, false}
 use mathlib.Core.List.{List, _++_}
 use mathlib.Core.Option.{Option, none, some}
 use Rattle.base.specs.Firsts.{orNumber}
@@ -12,6 +12,7 @@ use Rattle.base.specs.Pick.{pick}
 use Rattle.base.specs.Tables.{table}
 use Rattle.selector.specs.Gates.{constantsOf, gateSlots, gateWords}
 use Rattle.selector.specs.MadeUp.{nodesFit, wanted}
+use Rattle.selector.specs.Markers.{blockedBy}
 use Rattle.selector.specs.Nodes.{mostLevels, nodeSlots, treeAt}
 use Rattle.selector.specs.Paths.{Selector, noSelector, pathTo, selected, steps, unknownGate}
 use Rattle.base.specs.Limits.{mostGates}
@@ -20,7 +21,7 @@ use Rattle.selector.specs.Search.{planTree}
 use Rattle.selector.specs.Tree.{Tree}
 use Rattle.parameters.specs.Lookup.{flagOf, modeOf, shareOf, widthOf}
 use Rattle.parameters.specs.Parameters.{lookupOf, parametersNumber}
-use Rattle.tree.specs.Selection.{selectionBare, selectionBits, selectionLength, selectionNumber, selectionOf}
+use Rattle.tree.specs.Selection.{selectionBits, selectionLength, selectionNumber, selectionOf}
 use Rattle.tree.specs.Shapes.{shapeOf}
 use Rattle.parameters.specs.declared.lookup.LookupParameters.the-variants.{NoLookup}
 use Rattle.tree.specs.declared.gate_rows.GateRows.{GateRows}
@@ -206,11 +207,19 @@ planOwn p = constantsOf (planExtra p) (gatesGiven p)
 abbrev pub planPlaced : Plan → ℕ → Bool
 planPlaced p g = ltb 0 (wanted (gatesGiven p) (p .«gate_count») g)
 
+-- 02, Change 4: "the all-0 path is not of kind 1"
+abbrev pub planBlocked : Plan → Bool
+planBlocked p = blockedBy (planPath p) (gatesGiven p) (p .«gate_count»)
+
+-- whose rows are turned away: "a kind 2 row in a longer list whose all-0 path is not of kind 1"
+abbrev pub planBarred : Plan → ℕ → Bool
+planBarred p g = pick (planPlaced p g) false (planBlocked p)
+
 -- a word for each listed gate, 0 for those that are not
 abbrev pub forListed : Plan → (ℕ → ℕ) → List ℕ
 forListed p f = table mostGates (λ (g : ℕ). pick (ltb g (p .«gate_count»)) (f g) 0)
 
--- what rows need of each gate: what is answered of it, and its own number of constants
+-- what rows need of each gate: its path, whether its rows are turned away, and its own number of constants
 abbrev pub gateRowsOf : Plan → GateRows
 gateRowsOf p =
     record {
@@ -218,7 +227,7 @@ gateRowsOf p =
       many = p .«gate_count»;
       bits = forListed p (λ (g : ℕ). selectionBits (planSelection p g));
       steps = forListed p (λ (g : ℕ). selectionLength (planSelection p g));
-      bare = forListed p (λ (g : ℕ). selectionBare (planSelection p g));
+      barred = forListed p (λ (g : ℕ). pick (planBarred p g) 1 0);
       own = forListed p (planOwn p);
     }
 
@@ -229,7 +238,7 @@ noGateRows =
       many = 0;
       bits = replicate mostGates 0;
       steps = replicate mostGates 0;
-      bare = replicate mostGates 0;
+      barred = replicate mostGates 0;
       own = replicate mostGates 0;
     }
 

@@ -1,9 +1,9 @@
 -- What a plan that passes 19 gives the layers above: the ranges of its numbers, its paths, its gates' constants, and what it answers of them.
 --
--- Main definitions: `Sound`, `GateWords`. Main statements: `sound`, `selector-known`, `path-kept`, `path-answers`, `gate-words`, `placed-parted`, `dropped-bare`.
+-- Main definitions: `Sound`, `GateWords`. Main statements: `sound`, `selector-known`, `path-kept`, `path-answers`, `gate-words`, `placed-parted`, `dropped-bare`, `evaluated-off`.
 use Prim.Native.Nat.{_*_, _+_, _<_, _≤_, ℕ}
-use borrow.Author.Tests.{eq-eqb, le-ltb, lt-ltb, ltb-false, ltb-true}
-use lib.Dec.{ltb}
+use borrow.Author.Tests.{eq-eqb, eqb-true, le-ltb, lt-ltb, ltb-false, ltb-true, ne-eqb}
+use lib.Dec.{eqb, ltb}
 use lib.ListN.{getD, length}
 use lib.Seq.{length-take-le}
 use mathlib.Core.Bool.{Bool, false, true}
@@ -21,10 +21,12 @@ use Rattle.base.specs.Pick.{pick}
 use Rattle.base.specs.Tables.{table-at}
 use Rattle.labels.specs.Ranges.{rangesFit}
 use Rattle.labels.specs.RangesLaws.{Ranges, ranges-fit}
-use Rattle.selector.specs.Gates.{gateWords}
+use Rattle.selector.specs.Gates.{gateWords, kindOf}
 use Rattle.selector.specs.Inner.{Sound as Records}
 use Rattle.selector.specs.MadeUp.{wanted}
 use Rattle.selector.specs.MadeUpLaws.{Sturdy, tree-constants, unwanted-bare}
+use Rattle.selector.specs.MarkerLaws.{ends-some, parted-noughts}
+use Rattle.selector.specs.Markers.{markerEnds, noughts}
 use Rattle.selector.specs.Nodes.{mostLevels, treeAt}
 use Rattle.selector.specs.PathLaws.{Parted, bits-digits, path-cases, path-digits, path-fits, path-none, path-some, pathless, paths-parted, selected-steps, unlisted-path}
 use Rattle.selector.specs.Paths.{Selector, aPath, noSelector, orEmpty, pathOf, pathTo, selected, steps, unknownGate}
@@ -34,9 +36,9 @@ use Rattle.selector.specs.Tree.{Tree}
 use Rattle.parameters.specs.Lookup.{modeOf, widthOf}
 use Rattle.parameters.specs.Parameters.{flagNumber, parametersNumber, rangeNumber}
 use Rattle.parameters.specs.ParametersLaws.{InRange, in-range}
-use Rattle.tree.specs.Plan.{forListed, gateRowsAnswer, gateRowsOf, gatesGiven, parametersOf, pathAnswer, planExtra, planFault, planOwn, planPath, planPlaced, planSelection, planSelector}
+use Rattle.tree.specs.Plan.{forListed, gateRowsAnswer, gateRowsOf, gatesGiven, parametersOf, pathAnswer, planBarred, planBlocked, planExtra, planFault, planOwn, planPath, planPlaced, planSelection, planSelector}
 use Rattle.tree.specs.PlanLaws.{Faultless, fault-none}
-use Rattle.tree.specs.Selection.{selection-steps, selectionBare, selectionBits, selectionLength, selectionOf, selectorOf}
+use Rattle.tree.specs.Selection.{selection-steps, selectionBits, selectionLength, selectionOf, selectorOf}
 use Rattle.tree.specs.declared.gate_rows.GateRows.{GateRows}
 use Rattle.tree.specs.declared.plan.Plan.{Plan}
 
@@ -61,8 +63,17 @@ pub record Sound (q : Plan) : Type 0 where
 -- the words of a listed gate in an answer for all gates
 pub record GateWords (q : Plan) (r : GateRows) (g : ℕ) : Type 0 where
   pub path : Spelled (planPath q g) (getD (r .bits) g 0) (getD (r .steps) g 0)
-  pub bare : getD (r .bare) g 0 ≡ pick (planPlaced q g) 0 1
+  pub barred : getD (r .barred) g 0 ≡ pick (planBarred q g) 1 0
   pub own : getD (r .own) g 0 ≡ planOwn q g
+
+-- a gate of another kind than 2 is placed
+pub kind-placed : (q : Plan) (g : ℕ) → kindOf (gatesGiven q) g ≢ 2 → planPlaced q g ≡ true
+unfolding wanted
+kind-placed q g n = rw (ne-eqb (kindOf (gatesGiven q) g) 2 n) (by (eqb (q .«gate_count») 1))
+  where
+    by : (t : Bool) → ltb 0 (pick t 1 1) ≡ true
+    by true = refl
+    by false = refl
 
 module _ (q : Plan) (e : planFault q ≡ 0) where
   abbrev many : ℕ
@@ -165,13 +176,6 @@ module _ (q : Plan) (e : planFault q ≡ 0) where
       by true w = let p = placed-path g h w in listed ∙ ap selected (p .1) ∙ ap aPath (sym (p .2))
       by false w = listed ∙ ap selected (dropped-path g h w)
 
-  pub bare-word : (g : ℕ) → g < many → selectionBare (planSelection q g) ≡ pick (planPlaced q g) 0 1
-  bare-word g h = ap (λ (s : Selector). selectionBare (selectionOf s)) (selector-known g h) ∙ by (planPlaced q g)
-    where
-      by : (b : Bool) → selectionBare (selectionOf (pick b (aPath (planPath q g)) noSelector)) ≡ pick b 0 1
-      by true = refl
-      by false = refl
-
   -- the answer for all gates
   rows-are : gateRowsAnswer q ≡ gateRowsOf q
   unfolding gateRowsAnswer
@@ -190,7 +194,7 @@ module _ (q : Plan) (e : planFault q ≡ 0) where
         let s : getD (r .steps) g 0 ≡ selectionLength (planSelection q g) = ap (λ (z : GateRows). getD (z .steps) g 0) (a ∙ rows-are) ∙ listed-word (λ (k : ℕ). selectionLength (planSelection q k)) g h in
         record {
           path = rw (b, s) (spelled g);
-          bare = ap (λ (z : GateRows). getD (z .bare) g 0) (a ∙ rows-are) ∙ listed-word (λ (k : ℕ). selectionBare (planSelection q k)) g h ∙ bare-word g h;
+          barred = ap (λ (z : GateRows). getD (z .barred) g 0) (a ∙ rows-are) ∙ listed-word (λ (k : ℕ). pick (planBarred q k) 1 0) g h;
           own = ap (λ (z : GateRows). getD (z .own) g 0) (a ∙ rows-are) ∙ listed-word (planOwn q) g h;
         }
 
@@ -206,3 +210,16 @@ module _ (q : Plan) (e : planFault q ≡ 0) where
   dropped-bare g h w =
       let z : wanted words many g ≡ 0 = omega (arith, ltb-false 0 (wanted words many g) w) in
       (path-is g ∙ ap orEmpty (dropped-path g h w), bare g h z)
+
+  -- 02, Change 4: where the all-0 path belongs to a kind 1 gate, it is no evaluated gate's
+  pub evaluated-off : planBlocked q ≡ false → (g : ℕ) → g < many → kindOf words g ≡ 0 → noughts (planPath q g) ≡ 0
+  evaluated-off free g h k =
+      let w = ends-some (λ (i : ℕ). eqb (noughts (planPath q i)) 1) words many (held (markerEnds (λ (i : ℕ). eqb (noughts (planPath q i)) 1) words many) free) in
+      let m = w .gate in
+      let other : m ≢ g = λ z. omega (arith, k, w .marker, ap (kindOf words) z) in
+      parted-noughts (planPath q m) (planPath q g) (eqb-true (noughts (planPath q m)) 1 (w .at-end))
+      (placed-parted m g (w .listed) h (kind-placed q m (λ z. omega (arith, z, w .marker))) (kind-placed q g (λ z. omega (arith, z, k))) other)
+    where
+      held : (t : Bool) → pick t false true ≡ false → t ≡ true
+      held true z = refl
+      held false z = sym z

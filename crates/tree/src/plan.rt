@@ -10,6 +10,7 @@ ghost use Rattle.selector.specs.Walk.{Links};
 ghost use Rattle.tree.specs.Selection.{selectionOf};
 ghost use Rattle.tree.specs.Plan.{zeroPlan, parametersIn, outlineOf, planIn, planFault, selectorAmong, pathAnswer, gateRowsAnswer, tableIdAnswer};
 use crate::gate_rows::GateRows;
+use crate::gate_rows::blocked_by;
 use crate::gate_rows::list_gates;
 use crate::gate_rows::no_gate_rows;
 use crate::made_up::nodes_fit;
@@ -162,18 +163,19 @@ pub fn parts_rows<'a>(outline: Outline, gates: &'a [u64], nodes: &'a [u64]) -> G
     let mut steps = [0; MOST_GATES];
     let count = outline.node_count as usize;
     all_placements(nodes, count, 0, 0, 1, 0, MOST_LEVELS, &mut bits, &mut steps);
-    let mut bare = [0; MOST_GATES];
-    let mut own = [0; MOST_GATES];
     let many = outline.gate_count;
+    let blocked = blocked_by(gates, many as usize, &bits);
+    let mut barred = [0; MOST_GATES];
+    let mut own = [0; MOST_GATES];
     let lookup = outline.lookup;
     let extra = extra_of(lookup.mode());
-    list_gates(gates, many as usize, extra, &mut bare, &mut own);
+    list_gates(gates, many as usize, extra, blocked, &mut barred, &mut own);
     GateRows {
         number: 0,
         many: many,
         bits: bits,
         steps: steps,
-        bare: bare,
+        barred: barred,
         own: own,
     }
 }

@@ -19,15 +19,15 @@ use Rattle.columns.proofs.row_tests.test_rows.Statement.{statement}
 use Rattle.columns.proofs.row_tests.test_rows.Tie as tie
 
 abbrev Inv-loop : tie.InvT-loop
-Inv-loop many own trace count piece used₀ row₀ i₀ used row i = Passed (gatesBy many own) trace piece used₀ count used row i
+Inv-loop many own barred trace count piece used₀ row₀ i₀ used row i = Passed (gatesBy many own barred) trace piece used₀ count used row i
 
 abbrev μ-loop : tie.MeasureT-loop
-μ-loop many own trace count piece used₀ row₀ i₀ used row i = length piece - i
+μ-loop many own barred trace count piece used₀ row₀ i₀ used row i = length piece - i
 
 loop-holds : tie.Need-loop-holds Inv-loop μ-loop
 loop-holds c =
     let a = c .before .args in
-    passed-none (gatesBy (a .many) (a .own .now)) (a .trace) (a .piece .now) (a .used .now) (a .count) (omega (arith, c .before .pre))
+    passed-none (gatesBy (a .many) (a .own .now) (a .barred .now)) (a .trace) (a .piece .now) (a .used .now) (a .count) (omega (arith, c .before .pre))
 
 mul-row-fault : tie.Need-mul-row-fault Inv-loop μ-loop
 mul-row-fault c = search needs
@@ -46,11 +46,11 @@ row-fault-requires c κs = c .before .before .before .before .pre .0
 
 -- the part that is handed over is the words from i on
 part : (c : tie.After-row-fault Inv-loop μ-loop) → let a = c .before .before .before .before .before .args in let l = c .before .before .before .loop in
-    c .row-fault .result ≡ rowFault (gatesBy (a .many) (a .own .now)) (a .trace) (l .row) (front rowSize (drop (l .i) (a .piece .now)))
+    c .row-fault .result ≡ rowFault (gatesBy (a .many) (a .own .now) (a .barred .now)) (a .trace) (l .row) (front rowSize (drop (l .i) (a .piece .now)))
 part c =
     let a = c .before .before .before .before .before .args in
     let l = c .before .before .before .loop in
-    c .row-fault .ensures ∙ ap (λ (rest : List ℕ). rowFault (gatesBy (a .many) (a .own .now)) (a .trace) (l .row) (front rowSize rest)) (rest-is (a .piece .now) (l .i))
+    c .row-fault .ensures ∙ ap (λ (rest : List ℕ). rowFault (gatesBy (a .many) (a .own .now) (a .barred .now)) (a .trace) (l .row) (front rowSize rest)) (rest-is (a .piece .now) (l .i))
 
 -- a record without a fault is whole
 record Good (gs : Gates) (trace row i : ℕ) (piece : List ℕ) : Type 0 where
@@ -64,18 +64,18 @@ good-row gs trace row i piece e =
     let u = uncut rowSize piece i (λ q. bad (ap (rowFault gs trace row) (sym q) ∙ e)) in
     record { two = u .two; fits = u .fits; fine = row-fine gs trace row (getD piece i 0) (getD piece (i + 1) 0) _ (ap (rowFault gs trace row) (sym (u .is)) ∙ e) }
 
-good : (c : tie.Else1 Inv-loop μ-loop) → let a = c .before .before .before .before .before .before .args in let l = c .before .before .before .before .loop in Good (gatesBy (a .many) (a .own .now)) (a .trace) (l .row) (l .i) (a .piece .now)
+good : (c : tie.Else1 Inv-loop μ-loop) → let a = c .before .before .before .before .before .before .args in let l = c .before .before .before .before .loop in Good (gatesBy (a .many) (a .own .now) (a .barred .now)) (a .trace) (l .row) (l .i) (a .piece .now)
 good c =
     let a = c .before .before .before .before .before .before .args in
     let l = c .before .before .before .before .loop in
-    good-row (gatesBy (a .many) (a .own .now)) (a .trace) (l .row) (l .i) (a .piece .now) (sym (part (c .before)) ∙ c .if1 .left)
+    good-row (gatesBy (a .many) (a .own .now) (a .barred .now)) (a .trace) (l .row) (l .i) (a .piece .now) (sym (part (c .before)) ∙ c .if1 .left)
 
 returns : tie.Need-returns Inv-loop μ-loop
 returns c =
     let a = c .before .before .before .before .before .before .args in
     let l = c .before .before .before .before .loop in
     let e = part (c .before) in (
-      e ∙ sym (passed-found (gatesBy (a .many) (a .own .now)) (a .trace) (a .piece .now) (a .used .now) (a .count) (l .used) (l .row) (l .i) (l .inv) (omega arith) (λ z. c .if1 .taken (e ∙ z))),
+      e ∙ sym (passed-found (gatesBy (a .many) (a .own .now) (a .barred .now)) (a .trace) (a .piece .now) (a .used .now) (a .count) (l .used) (l .row) (l .i) (l .inv) (omega arith) (λ z. c .if1 .taken (e ∙ z))),
       λ z. absurd (c .if1 .taken z),
     )
 
@@ -117,13 +117,13 @@ loop-again c =
     let a = c .before .before .before .before .before .before .before .before .args in
     let l = c .before .before .before .before .before .before .loop in
     let t = good (c .before .before) in
-    passed-next (gatesBy (a .many) (a .own .now)) (a .trace) (a .piece .now) (a .used .now) (a .count) (l .used) (l .row) (l .i) (l .inv) (t .two) (t .fits) (t .fine)
+    passed-next (gatesBy (a .many) (a .own .now) (a .barred .now)) (a .trace) (a .piece .now) (a .used .now) (a .count) (l .used) (l .row) (l .i) (l .inv) (t .two) (t .fits) (t .fine)
 
 returns-2 : tie.Need-returns-2 Inv-loop μ-loop
 returns-2 c =
     let a = c .before .before .before .args in
     let l = c .before .loop in
-    let gs : Gates = gatesBy (a .many) (a .own .now) in
+    let gs : Gates = gatesBy (a .many) (a .own .now) (a .barred .now) in
     let done : length (a .piece .now) ≤ l .i = c .loop-test .left in (
       sym (passed-fine gs (a .trace) (a .piece .now) (a .used .now) (a .count) (l .used) (l .row) (l .i) (l .inv) done),
       λ _. (

@@ -43,13 +43,13 @@ returns c =
 
 test-rows-requires : tie.Need-test-rows-requires
 test-rows-requires c κs =
-    let s = c .before .before .before .before .before .before .before .before .before in
+    let s = c .before .before .before .before .before .before .before .before .before .before .before in
     (omega (arith, fine s .few-gates, told s .alike .many-same), omega arith, fine s .ranges .long)
 
 -- the rows' number: the gates' constants are the plan's
-in-rows : (c : tie.After-test-rows) → let a = c .before .before .before .before .before .before .before .before .before .before .args in c .test-rows .result .number ≡ rowsFault (gatesOf (settingOf (a .plan))) (a .plan .trace) 0 (rowsOf (a .rows .now))
+in-rows : (c : tie.After-test-rows) → let a = c .before .before .before .before .before .before .before .before .before .before .before .before .args in c .test-rows .result .number ≡ rowsFault (gatesOf (settingOf (a .plan))) (a .plan .trace) 0 (rowsOf (a .rows .now))
 in-rows c =
-    let s = c .before .before .before .before .before .before .before .before .before .before in
+    let s = c .before .before .before .before .before .before .before .before .before .before .before .before in
     c .test-rows .ensures .0 ∙ gates-fault (s .args .plan) (s .args .gates) (told s) (s .args .plan .trace) 0 (rowsOf (s .args .rows .now))
 
 -- the labels are not refused
@@ -59,15 +59,15 @@ unrefused c = sym (labelled (c .before)) ∙ c .if1 .left
 returns-2 : tie.Need-returns-2
 returns-2 c =
     let e = in-rows (c .before .before) in
-    (e ∙ sym (first-none _ _ (unrefused (c .before .before .before .before .before .before)) ∙ first-found _ _ (λ z. c .if2 .taken (e ∙ z))), λ z. absurd (c .if2 .taken z))
+    (e ∙ sym (first-none _ _ (unrefused (c .before .before .before .before .before .before .before .before)) ∙ first-found _ _ (λ z. c .if2 .taken (e ∙ z))), λ z. absurd (c .if2 .taken z))
 
 later-fault-requires : tie.Need-later-fault-requires
-later-fault-requires c κs = let s = c .before .before .before .before .before .before .before .before .before .before .before .before in (s .pre .0, s .pre .2)
+later-fault-requires c κs = let s = c .before .before .before .before .before .before .before .before .before .before .before .before .before .before in (s .pre .0, s .pre .2)
 
 returns-3 : tie.Need-returns-3
 returns-3 c =
     let e = c .later-fault .ensures in
-    (e ∙ sym (first-none _ _ (unrefused (c .before .before .before .before .before .before .before)) ∙ first-none _ _ (sym (in-rows (c .before .before .before)) ∙ c .before .if2 .left)), λ z. c .before .before .before .test-rows .ensures .1 (c .before .if2 .left))
+    (e ∙ sym (first-none _ _ (unrefused (c .before .before .before .before .before .before .before .before .before)) ∙ first-none _ _ (sym (in-rows (c .before .before .before)) ∙ c .before .if2 .left)), λ z. c .before .before .before .test-rows .ensures .1 (c .before .if2 .left))
 
 pub test-pieces-spec : {M : Type 1} → statement M
 test-pieces-spec = tie.close (tie.spec representatives-requires returns test-rows-requires returns-2 later-fault-requires returns-3)

@@ -96,33 +96,33 @@ room c = let a = c .before .before .before .before .before .before .before .befo
 
 test-rows-requires : tie.Need-test-rows-requires
 test-rows-requires c κs =
-    let w = fine (c .before .before .before .before .before .before .before .before .before .before) in
-    (omega (arith, w .few-gates, gates (c .before .before .before .before .before .before .before .before .before .before) .alike .many-same), counts (c .before .before .before .before .before .before) .rows-in, w .ranges .long)
+    let w = fine (c .before .before .before .before .before .before .before .before .before .before .before .before) in
+    (omega (arith, w .few-gates, gates (c .before .before .before .before .before .before .before .before .before .before .before .before) .alike .many-same), counts (c .before .before .before .before .before .before .before .before) .rows-in, w .ranges .long)
 
 -- the piece's number is its first faulty record's
-own : (c : tie.After-test-rows) → let s = held (c .before .before .before .before .before .before .before .before .before .before .before .before .before .before .before .before .before .before) in let a = c .before .before .before .before .before .before .before .before .before .before .before .before .before .before .before .before .before .before .args in rowsNumber (settingOf (s .plan)) (stateOf s) (a .piece .now) (a .constants .now) ≡ c .test-rows .result .number
+own : (c : tie.After-test-rows) → let s = held (c .before .before .before .before .before .before .before .before .before .before .before .before .before .before .before .before .before .before .before .before) in let a = c .before .before .before .before .before .before .before .before .before .before .before .before .before .before .before .before .before .before .before .before .args in rowsNumber (settingOf (s .plan)) (stateOf s) (a .piece .now) (a .constants .now) ≡ c .test-rows .result .number
 own c =
-    let s = held (c .before .before .before .before .before .before .before .before .before .before .before .before .before .before .before .before .before .before) in
-    let a = c .before .before .before .before .before .before .before .before .before .before .before .before .before .before .before .before .before .before .args in
-    rows-own s (a .piece .now) (a .constants .now) (upright (c .before .before .before .before .before .before .before)) (room (c .before .before .before .before))
-    ∙ sym (c .test-rows .ensures .0 ∙ gates-fault (s .plan) (c .before .before .before .before .before .before .before .before .before .before .before .before .before .parts-rows .result) (gates (c .before .before .before .before .before .before .before .before .before .before .before)) (a .outline .trace) (a .counts .rows) (rowsOf (a .piece .now)))
+    let s = held (c .before .before .before .before .before .before .before .before .before .before .before .before .before .before .before .before .before .before .before .before) in
+    let a = c .before .before .before .before .before .before .before .before .before .before .before .before .before .before .before .before .before .before .before .before .args in
+    rows-own s (a .piece .now) (a .constants .now) (upright (c .before .before .before .before .before .before .before .before .before)) (room (c .before .before .before .before .before .before))
+    ∙ sym (c .test-rows .ensures .0 ∙ gates-fault (s .plan) (c .before .before .before .before .before .before .before .before .before .before .before .before .before .before .before .parts-rows .result) (gates (c .before .before .before .before .before .before .before .before .before .before .before .before .before)) (a .outline .trace) (a .counts .rows) (rowsOf (a .piece .now)))
 
 give-marked-requires-4 : tie.Need-give-marked-requires-4
 give-marked-requires-4 c κs = search needs
 
 returns-4 : tie.Need-returns-4
 returns-4 c =
-    let a = c .before .before .before .before .before .before .before .before .before .before .before .before .before .before .before .before .before .before .before .before .before .args in
-    let k = rows-refused (held (c .before .before .before .before .before .before .before .before .before .before .before .before .before .before .before .before .before .before .before .before .before)) (a .piece .now) (a .constants .now) _ (own (c .before .before .before)) (c .before .if5 .taken) in
+    let a = c .before .before .before .before .before .before .before .before .before .before .before .before .before .before .before .before .before .before .before .before .before .before .before .args in
+    let k = rows-refused (held (c .before .before .before .before .before .before .before .before .before .before .before .before .before .before .before .before .before .before .before .before .before .before .before)) (a .piece .now) (a .constants .now) _ (own (c .before .before .before)) (c .before .if5 .taken) in
     (c .give-marked4 .ensures ∙ ap markedOf (k .0), k .1)
 
 write-rows-requires : tie.Need-write-rows-requires
 write-rows-requires c κs =
-    let a = c .before .before .before .before .before .before .before .before .before .before .before .before .before .before .before .before .before .before .before .before .before .args in
+    let a = c .before .before .before .before .before .before .before .before .before .before .before .before .before .before .before .before .before .before .before .before .before .before .before .args in
     let q = a .outline in
-    let w = fine (c .before .before .before .before .before .before .before .before .before .before .before .before .before .before) in
-    let g = gates (c .before .before .before .before .before .before .before .before .before .before .before .before .before .before) in
-    let h : q .told .constants * q .trace ≤ length (a .constants .now) = omega (arith, room (c .before .before .before .before .before .before .before)) in (
+    let w = fine (c .before .before .before .before .before .before .before .before .before .before .before .before .before .before .before .before) in
+    let g = gates (c .before .before .before .before .before .before .before .before .before .before .before .before .before .before .before .before) in
+    let h : q .told .constants * q .trace ≤ length (a .constants .now) = omega (arith, room (c .before .before .before .before .before .before .before .before .before)) in (
       (w .ranges .long, omega (arith, w .height), omega (arith, w .few-gates, g .alike .many-same), h),
       (g .room, sym (c .before .before .before .test-rows .ensures .0) ∙ c .before .if5 .left),
     )
@@ -136,12 +136,12 @@ same-length c = search needs
 returns-5 : tie.Need-returns-5
 unfolding rowsWritten
 returns-5 c =
-    let s = held (c .before .before .before .before .before .before .before .before .before .before .before .before .before .before .before .before .before .before .before .before .before .before .before .before .before) in
-    let a = c .before .before .before .before .before .before .before .before .before .before .before .before .before .before .before .before .before .before .before .before .before .before .before .before .before .args in
+    let s = held (c .before .before .before .before .before .before .before .before .before .before .before .before .before .before .before .before .before .before .before .before .before .before .before .before .before .before .before) in
+    let a = c .before .before .before .before .before .before .before .before .before .before .before .before .before .before .before .before .before .before .before .before .before .before .before .before .before .before .before .args in
     let z = c .before .before .before .before .before .if5 .left in
     let k = rows-taken s (a .piece .now) (a .constants .now) (own (c .before .before .before .before .before .before .before) ∙ z) in
     let m = c .before .before .before .before .before .before .before .test-rows .ensures .1 z in
-    (c .give-marked5 .ensures ∙ rw (m .0, m .1) (ap markedOf (k .0)), c .before .before .before .write-rows .ensures (planPath (s .plan)) (gates (c .before .before .before .before .before .before .before .before .before .before .before .before .before .before .before .before .before .before) .spells-paths) ∙ k .1)
+    (c .give-marked5 .ensures ∙ rw (m .0, m .1) (ap markedOf (k .0)), c .before .before .before .write-rows .ensures (planPath (s .plan)) (gates (c .before .before .before .before .before .before .before .before .before .before .before .before .before .before .before .before .before .before .before .before) .spells-paths) ∙ k .1)
 
 give-marked-requires-6 : tie.Need-give-marked-requires-6
 give-marked-requires-6 c κs = search needs
