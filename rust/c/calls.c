@@ -1,6 +1,7 @@
 /* What the header promises beside the proofs: its macros are what the functions answer; NULL may be
- * passed with length 0 wherever a pointer is; paths, representatives and padding write what it says
- * and nothing else; every call runs in a thread with the stack that the header names.
+ * passed with length 0 wherever a pointer is; paths, representatives, rows of a kind 2 gate and padding
+ * write what it says and nothing else; every call runs in a thread with the stack that the header
+ * names.
  *
  *   calls [BYTES]     the thread's stack; KINCHOYU_STACK_BYTES if not given
  */
@@ -205,6 +206,52 @@ static void representatives(void)
     ANSWERS(24, words[128]);
 }
 
+#define ROWS(...) \
+    (const uint64_t[]){__VA_ARGS__}, WORDS(((const uint64_t[]){__VA_ARGS__})), constants, WORDS(constants)
+
+/* Rows of a gate of kind 2: refused with 23, after 12, unless the all-0 path is a kind 1 gate's; a
+ * refused call writes nothing, and without such a row finishing is refused. */
+static void marker_rows(void)
+{
+    static const uint64_t parameters[] = {2, 1, 1, 0, 0, 0, 0, 0}, tall[] = {4, 1, 1, 0, 0, 0, 0, 0};
+    static const uint64_t barred[] = {0, 2, 1, 2, 0, 0}, allowed[] = {0, 2, 1, 2, 0, 0, 1, 0, 0};
+    static const uint64_t cells[] = {KINCHOYU_PLACEHOLDER, KINCHOYU_PLACEHOLDER};
+    /* two evaluated gates, a kind 1 gate on another path than the all-0 one, a kind 2 gate */
+    static const uint64_t listing[] = {8, 4, 1, 0, 0, 0, 0, 0, 0, 4, 0, 1, 0, 0, 1, 0, 1, 0, 0, 2, 0, 0,
+                                       4, 0, 0, 1, 0, 2, 0, 3, 0, 0, 4, KINCHOYU_PLACEHOLDER,
+                                       KINCHOYU_PLACEHOLDER, KINCHOYU_PLACEHOLDER, KINCHOYU_PLACEHOLDER, 0};
+    uint64_t before[WORDS(state)], constants[9], copies[4], padded[2 * WORDS(listing)], count[1] = {JUNK};
+
+    ANSWERS(0, kinchoyu_plan(parameters, 8, barred, WORDS(barred), PLAN));
+    ANSWERS(0, kinchoyu_open(PLAN, STATE, constants, 2, copies, 2, NULL, 0, NULL, 0));
+    memcpy(before, state, sizeof state);
+    for (size_t i = 0; i < WORDS(constants); i++) {
+        constants[i] = JUNK;
+    }
+    ANSWERS(23, kinchoyu_rows(STATE, ROWS(1, 0)));
+    ANSWERS(12, kinchoyu_rows(STATE, ROWS(1, 1, 5)));
+    ANSWERS(12, kinchoyu_rows(STATE, ROWS(1)));
+    ANSWERS(23, kinchoyu_rows(STATE, ROWS(0, 1, 5, 1, 0)));
+    ANSWERS(23, kinchoyu_rows(STATE, ROWS(1, 0, 0, 1, KINCHOYU_P)));
+    ANSWERS(11, kinchoyu_rows(STATE, ROWS(0, 1, KINCHOYU_P, 1, 0)));
+    ANSWERS(10, kinchoyu_rows(STATE, cells, 2, constants, 1));
+    ANSWERS(0, (uint64_t)(memcmp(before, state, sizeof state) != 0));
+    junk(constants, 0, WORDS(constants), __LINE__);
+    ANSWERS(0, kinchoyu_rows(STATE, ROWS(0, 0, 0, 0)));
+    ANSWERS(23, kinchoyu_rows(STATE, ROWS(1, 0)));
+    ANSWERS(0, kinchoyu_cells(STATE, cells, 2, copies, 2, NULL, 0));
+    ANSWERS(17, kinchoyu_finish(STATE, copies, 2, NULL, 0));
+
+    ANSWERS(0, kinchoyu_plan(tall, 8, allowed, WORDS(allowed), PLAN));
+    ANSWERS(0, kinchoyu_open(PLAN, STATE, constants, 8, copies, 4, NULL, 0, NULL, 0));
+    ANSWERS(0, kinchoyu_rows(STATE, ROWS(1, 0, 0, 1, 5, 2, 0)));
+
+    ANSWERS(23, kinchoyu_run(listing, WORDS(listing), PLAN, constants, 9, copies, 4, NULL, 0, NULL, 0));
+    ANSWERS(0, plan[0]);
+    ANSWERS(23, kinchoyu_pad(listing, WORDS(listing), padded, WORDS(padded), count, 1));
+    ANSWERS(0, count[0]);
+}
+
 /* The worked circuit with three rows of columns and one row: to four rows, and no word beyond. */
 static void padding(void)
 {
@@ -360,6 +407,7 @@ static void *in_a_thread(void *nothing)
     null_where_the_length_is_0();
     paths();
     representatives();
+    marker_rows();
     padding();
     for (uint64_t step = 0; step < 8; step++) {
         for (uint64_t first = 0; first < 8; first++) {

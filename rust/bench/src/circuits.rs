@@ -6,7 +6,7 @@ mod circuit;
 #[path = "../../runner/src/random.rs"]
 mod random;
 
-pub use circuit::{Circuit, PLACEHOLDER};
+pub use circuit::{blocked, Circuit, PLACEHOLDER};
 pub use random::Random;
 
 /// The order in which cells name their variables.
@@ -56,11 +56,12 @@ pub fn shapes() -> Vec<Shape> {
     all
 }
 
-/// A lookup gate with its constant, 20 evaluated gates, a marker with and one without selector.
+/// A lookup gate with its constant, 20 evaluated gates, two markers with selector, of which one ends on
+/// the all-0 path, and one without, whose rows are accepted for that.
 fn gates() -> Vec<[u64; 3]> {
     let mut gates = vec![[3, 0, 0]];
     gates.extend((0..20).map(|i| [0, 1 + i % 5, i % 9]));
-    gates.extend([[1, 0, 0], [2, 0, 0]]);
+    gates.extend([[1, 0, 0], [1, 0, 0], [2, 0, 0]]);
     gates
 }
 

@@ -1,6 +1,6 @@
 //! The seeded random circuits. Circuit i depends on the seed and i alone; twelve in a row have each N
 //! from 32 to 65,536 once, sixty each pair of N and lookup mode, all else is drawn.
-use crate::circuits::{table, Cells, Circuit, Random, PLACEHOLDER};
+use crate::circuits::{blocked, table, Cells, Circuit, Random, PLACEHOLDER};
 
 /// A circuit and what is to be said of it.
 pub struct Drawn {
@@ -130,8 +130,12 @@ fn tables(r: &mut Random, n: u64, w: u64) -> Vec<Vec<u64>> {
 }
 
 fn draw(r: &mut Random, n: u64, mode: u64) -> Option<Drawn> {
-    let gates = gates(r, mode, n.min(128));
+    let mut gates = gates(r, mode, n.min(128));
     let parameters = parameters(r, n, mode, &gates);
+    // rows of kind 2 gates would be refused
+    if gates.len() > 1 && blocked(parameters, &gates) {
+        gates.retain(|gate| gate[0] != 2);
+    }
     // lists that find no place are not timed
     let k = model::plan(parameters, &gates.concat()).ok()?.k;
     let manner = Manner::draw(r);

@@ -54,13 +54,19 @@ fn answers(sides: &mut Sides, figures: &mut Figures, batch: &Batch, wanted: &[u6
     }
 }
 
-/// Some of the next pieces as one list. A row of a gate that is not there is refused among them.
-pub fn next(r: &mut Random, sides: &mut Sides, figures: &mut Figures, rest: &mut Rest) -> Try {
+/// Some of the next pieces as one list, and among them a row that is refused, with its number.
+pub fn next(
+    r: &mut Random,
+    sides: &mut Sides,
+    figures: &mut Figures,
+    rest: &mut Rest,
+    (row, number): ([u64; 2], u64),
+) -> Try {
     let (mut batch, mut wanted) = (Batch::default(), vec![]);
     for _ in 0..r.within(0, MOST_CALLS as u64 / 2) {
         if r.once_in(4) {
-            batch.piece(Section::Rows, &[u64::MAX, 0]);
-            wanted.push(12);
+            batch.piece(Section::Rows, &row);
+            wanted.push(number);
         }
         let section = r.pick(&SECTIONS);
         batch.piece(section, &rest.piece(r, section));

@@ -1,21 +1,15 @@
-//! Document 01's "Run only" cases, the ends of what is taken, and those of document 02's padding.
+//! Document 01's "Run only" cases, the ends of what is taken, those of document 02's padding, and
+//! its rows that are refused with 23.
 use crate::beside_original;
 use crate::circuit::{Circuit, PLACEHOLDER};
 use crate::encoding::{NODE_COUNT, PLAN_WORDS};
 use crate::figures::Figures;
 use crate::padding;
 use crate::random::Random;
-use crate::script::{self, accepted, opened, planned};
+use crate::script::{self, accepted, opened, planned, refused, End};
 use crate::sides::{Call, Sides, PLAN};
 
 const MOST_VARIABLES: u64 = 1048576;
-
-fn refused(sides: &mut Sides, f: &mut Figures, call: Call, number: u64) -> Result<(), String> {
-    match sides.make(f, call)? {
-        met if met == number => Ok(()),
-        met => Err(format!("{}: {met}, not {number}", call.name())),
-    }
-}
 
 fn ready(r: &mut Random, f: &mut Figures, x: &Circuit) -> Result<Sides, String> {
     let mut sides = Sides::new(r);
@@ -39,7 +33,7 @@ fn trace(r: &mut Random, f: &mut Figures) -> Result<(), String> {
     x.cells.push(0);
     accepted(&mut sides, f, Call::Cells(&[0]))?;
     accepted(&mut sides, f, Call::Finish)?;
-    beside_original(r, f, &x, Some(sides))?;
+    beside_original(r, f, &x, End::Finished(sides))?;
     let parameters = [131072, 2, 0, 1, 3, 0, 0, 0];
     refused(&mut Sides::new(r), f, Call::Plan(&parameters, &[1, 0, 0]), 1)
 }
@@ -56,7 +50,7 @@ fn index(r: &mut Random, f: &mut Figures) -> Result<(), String> {
     }
     accepted(&mut sides, f, Call::Cells(&x.cells))?;
     accepted(&mut sides, f, Call::Finish)?;
-    beside_original(r, f, &x, Some(sides))?;
+    beside_original(r, f, &x, End::Finished(sides))?;
     let parameters = [4, 1, 0, 0, v + 1, 0, 0, 0];
     refused(&mut Sides::new(r), f, Call::Plan(&parameters, &[1, 0, 0]), 1)
 }
@@ -65,16 +59,16 @@ fn index(r: &mut Random, f: &mut Figures) -> Result<(), String> {
 fn gates(r: &mut Random, f: &mut Figures) -> Result<(), String> {
     let parameters = [128, 1, 0, 0, 0, 0, 0, 0];
     let x = Circuit::plain(parameters, &[[0, 2, 0]; 64]);
-    let finished = script::run(r, f, &x)?;
-    match &finished {
-        Some(sides) if sides.library[PLAN][NODE_COUNT + 1..PLAN_WORDS] == [8, 6, 8] => {}
+    let end = script::run(r, f, &x)?;
+    match &end {
+        End::Finished(sides) if sides.library[PLAN][NODE_COUNT + 1..PLAN_WORDS] == [8, 6, 8] => {}
         _ => return Err("64 gates: not placed, or D, K, F other than 8, 6, 8".to_string()),
     }
-    beside_original(r, f, &x, finished)?;
+    beside_original(r, f, &x, end)?;
     let x = Circuit::plain(parameters, &[[0, 2, 0]; 65]);
     let mut sides = Sides::new(r);
     refused(&mut sides, f, Call::Plan(&parameters, &x.gates.concat()), 8)?;
-    beside_original(r, f, &x, None)?;
+    beside_original(r, f, &x, End::NoPlace)?;
     refused(&mut sides, f, Call::Plan(&parameters, &[2, 0, 0].repeat(129)), 3)
 }
 
@@ -111,10 +105,77 @@ fn lengths(r: &mut Random, f: &mut Figures) -> Result<(), String> {
     Ok(())
 }
 
+const DROPPED: [u64; 3] = [2, 0, 0];
+
+/// Lists with a kind 2 gate, the last one, whose row is refused: the all-0 path is an evaluated gate's
+/// or the lookup gate's, with kind 1 gates and without.
+const BARRED: [(u64, &[[u64; 3]]); 5] = [
+    (0, &[[0, 1, 0], DROPPED]),
+    (1, &[[3, 0, 0], DROPPED]),
+    (0, &[[0, 1, 0], [0, 1, 0], [1, 0, 0], DROPPED]),
+    (1, &[[3, 0, 0], [0, 2, 0], [1, 0, 0], DROPPED]),
+    (2, &[[3, 0, 0], [0, 2, 1], [1, 0, 0], DROPPED]),
+];
+
+/// Lists in which it is accepted.
+const FREE: [(u64, &[[u64; 3]]); 4] = [
+    (0, &[DROPPED]),
+    (0, &[[0, 1, 0], [1, 0, 0], DROPPED]),
+    (1, &[[3, 0, 0], [1, 0, 0], DROPPED]),
+    (0, &[[0, 1, 0], [0, 1, 0], [1, 0, 0], [1, 0, 0], DROPPED]),
+];
+
+fn with_dropped(mode: u64, gates: &[[u64; 3]]) -> Circuit {
+    let n = gates.len().next_power_of_two() as u64;
+    Circuit::plain([n, 1, 1, 0, 0, mode, (mode > 0) as u64, (mode > 0) as u64], gates)
+}
+
+/// "23 a kind 2 row in a longer list whose all-0 path is not of kind 1, tested for each row after 12."
+fn dropped_rows(r: &mut Random, f: &mut Figures) -> Result<(), String> {
+    for (mode, gates) in BARRED {
+        let x = with_dropped(mode, gates);
+        let dropped = gates.len() as u64 - 1;
+        let mut sides = ready(r, f, &x)?;
+        for piece in [&[dropped, 1, 5][..], &[dropped], &[dropped + 1, 0, dropped, 0]] {
+            refused(&mut sides, f, Call::Rows(piece), 12)?;
+        }
+        for piece in [&[dropped, 0][..], &[0, 0, dropped, 0, dropped + 1, 0], &[dropped, 0, 0]] {
+            refused(&mut sides, f, Call::Rows(piece), 23)?;
+        }
+        accepted(&mut sides, f, Call::Rows(&[0, 0].repeat(x.parameters[0] as usize)))?;
+        refused(&mut sides, f, Call::Rows(&[dropped, 0]), 23)?;
+        refused(&mut sides, f, Call::Rows(&[0, 0, dropped, 0]), 13)?;
+        let end = script::run(r, f, &x)?;
+        beside_original(r, f, &x, end)?;
+    }
+    for (mode, gates) in FREE {
+        let x = with_dropped(mode, gates);
+        match script::run(r, f, &x)? {
+            End::Finished(sides) => beside_original(r, f, &x, End::Finished(sides))?,
+            _ => return Err(format!("not finished: {}", x.written())),
+        }
+    }
+    let unpadded = |rows: &[u64]| Circuit {
+        parameters: [1, 1, 0, 0, 0, 0, 0, 0],
+        gates: BARRED[2].1.to_vec(),
+        rows: rows.iter().map(|gate| vec![*gate, 0]).collect(),
+        cells: vec![PLACEHOLDER],
+        ..Circuit::default()
+    };
+    for (rows, wanted) in [(&[0, 1, 3][..], 23), (&[4, 3], 12), (&[3, 4], 23), (&[0, 1], 17)] {
+        match padding::whole(r, f, &unpadded(rows))? {
+            number if number == wanted => {}
+            number => return Err(format!("padding rows of {rows:?}: {number}, not {wanted}")),
+        }
+    }
+    Ok(())
+}
+
 pub fn run(f: &mut Figures) -> Result<(), String> {
     let mut r = Random::new(1);
     trace(&mut r, f)?;
     index(&mut r, f)?;
     gates(&mut r, f)?;
-    lengths(&mut r, f)
+    lengths(&mut r, f)?;
+    dropped_rows(&mut r, f)
 }

@@ -5,13 +5,14 @@ use crate::encoding::{GATE_COUNT, NODE_COUNT, PHASE, PLAN_WORDS, STATE_WORDS, US
 use crate::figures::Figures;
 use crate::random::Random;
 use crate::rest::{Rest, SECTIONS};
-use crate::script::{accepted, opened, planned};
+use crate::script::{accepted, opened, planned, refused};
 use crate::sides::{Call, Sides, PLAN, STATE};
 
-/// A circuit of a mode, with a gate of each kind that it may have.
+/// A circuit of a mode, with a gate of each kind that it may have; a kind 1 gate ends on the all-0
+/// path.
 fn circuit(mode: u64) -> Circuit {
     let (w, flag) = if mode == 0 { (0, 0) } else { (2, 1) };
-    let mut gates = vec![[0, 3, 2], [0, 1, 0], [1, 0, 0], [2, 0, 0], [0, 2, 1]];
+    let mut gates = vec![[0, 3, 2], [0, 1, 0], [1, 0, 0], [2, 0, 0], [0, 2, 1], [1, 0, 0]];
     if mode == 1 || mode == 2 {
         gates[0] = [3, 0, 0];
     }
@@ -49,7 +50,7 @@ fn plans(f: &mut Figures, sides: &Sides) -> Result<(), String> {
         for value in values(place, word) {
             aside.set(PLAN, place, value);
             // of a placed gate, of one without selector, and of one not listed
-            let paths = [0, 3, 5].map(Call::Path);
+            let paths = [0, 3, 6].map(Call::Path);
             for call in [Call::Stats, Call::TableId, Call::Open].into_iter().chain(paths) {
                 aside.make(f, call).map_err(|what| format!("word {place} {value}: {what}"))?;
             }
@@ -105,6 +106,24 @@ fn mode(f: &mut Figures, mode: u64) -> Result<(), String> {
     states(&mut r, f, &sides, &Rest::default())
 }
 
+/// A state half way, of a circuit whose next rows are refused with 23: an evaluated gate is on the
+/// all-0 path, and a kind 1 gate on another.
+fn barred(f: &mut Figures) -> Result<(), String> {
+    let mut r = Random::new(5);
+    let gates = [[0, 1, 0], [0, 1, 0], [1, 0, 0], [2, 0, 0]];
+    let x = Circuit::plain([4, 2, 0, 1, 1, 0, 0, 0], &gates);
+    let mut sides = Sides::new(&mut r);
+    planned(&mut r, &mut sides, f, &x)?;
+    opened(&mut r, &mut sides, f)?;
+    let mut rest = Rest::of(&x);
+    accepted(&mut sides, f, Call::Rows(&rest.rows[..2].concat()))?;
+    rest.rows = &rest.rows[2..];
+    refused(&mut sides, f, Call::Rows(&rest.rows.concat()), 23)?;
+    states(&mut r, f, &sides, &rest)
+}
+
 pub fn run(f: &mut Figures) -> Result<(), String> {
-    (0..5).try_for_each(|number| mode(f, number).map_err(|what| format!("mode {number}: {what}")))
+    (0..5)
+        .try_for_each(|number| mode(f, number).map_err(|what| format!("mode {number}: {what}")))?;
+    barred(f).map_err(|what| format!("rows that are refused with 23: {what}"))
 }

@@ -8,6 +8,8 @@ pub struct Figures {
     circuits: u64,
     /// Unpadded circuits that were padded and then run.
     pub padded: u64,
+    /// Circuits with rows that are refused with 23.
+    pub barred: u64,
     /// Circuits whose columns were compared with the original's.
     pub originals: u64,
     /// Pairs of N and C whose representatives and powers were compared with the original's.
@@ -28,6 +30,7 @@ impl Figures {
             start: Instant::now(),
             circuits: 0,
             padded: 0,
+            barred: 0,
             originals: 0,
             representatives: 0,
             calls: 0,
@@ -61,15 +64,15 @@ impl Figures {
 
     /// Which of the refusals that random calls reach were not met. 9 is reached by no circuit.
     pub fn unmet(&self) -> Vec<u64> {
-        (1..=22).filter(|number| *number != 9 && !self.by_number.contains_key(number)).collect()
+        (1..=23).filter(|number| *number != 9 && !self.by_number.contains_key(number)).collect()
     }
 
     pub fn print(&self, title: &str) {
         let took = self.start.elapsed().as_secs_f64();
         println!("{title}, {took:.1} s: library and model equal in every word after every call");
         println!(
-            "  circuits: {}; padded and run: {}; compared with the original: {}; calls: {}; words compared: {}",
-            self.circuits, self.padded, self.originals, self.calls, self.words
+            "  circuits: {}; with rows refused with 23: {}; padded and run: {}; compared with the original: {}; calls: {}; words compared: {}",
+            self.circuits, self.barred, self.padded, self.originals, self.calls, self.words
         );
         let names: Vec<String> = self.by_name.iter().map(|(x, n)| format!("{x} {n}")).collect();
         println!("  calls: {}", names.join(", "));

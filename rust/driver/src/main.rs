@@ -49,27 +49,26 @@ use circuit::Circuit;
 use figures::Figures;
 use generate::Size;
 use random::Random;
-use sides::Sides;
+use script::End;
 
-/// Compares a finished circuit with the original, where it was built in; `None` is one that
-/// planning turned down with 8.
+/// Compares a circuit whose calls were made with the original, where it was built in.
 pub fn beside_original(
     r: &mut Random,
     figures: &mut Figures,
     x: &Circuit,
-    finished: Option<Sides>,
+    end: End,
 ) -> Result<(), String> {
     figures.circuit(x);
     #[cfg(upstream)]
-    original::compare(r, figures, oracle::outcome(&x.listing(), 1), finished)?;
+    original::compare(r, figures, oracle::outcome(&x.listing(), 1), end)?;
     #[cfg(not(upstream))]
-    let _ = (r, finished);
+    let _ = (r, end);
     Ok(())
 }
 
 fn one(r: &mut Random, figures: &mut Figures, x: &Circuit) -> Result<(), String> {
-    let finished = script::run(r, figures, x)?;
-    beside_original(r, figures, x, finished)
+    let end = script::run(r, figures, x)?;
+    beside_original(r, figures, x, end)
 }
 
 /// Mostly small circuits, so that many are made.

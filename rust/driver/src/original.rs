@@ -2,7 +2,7 @@
 use crate::encoding::{GATE_COUNT, NODE_COUNT};
 use crate::figures::Figures;
 use crate::random::Random;
-use crate::script::{accepted, named};
+use crate::script::{accepted, named, End};
 use crate::sides::*;
 use model::labels::MOST_COLUMNS;
 use oracle::{Outcome, Output};
@@ -59,24 +59,26 @@ fn columns_differ(sides: &Sides, o: &Output) -> Option<String> {
     })
 }
 
-/// Compares with what the original made; `sides` are the finished ones, none where planning said 8.
+/// Compares with what the original made; it takes rows that are refused with 23.
 pub fn compare(
     r: &mut Random,
     figures: &mut Figures,
     outcome: Outcome,
-    sides: Option<Sides>,
+    end: End,
 ) -> Result<(), String> {
-    match (sides, outcome) {
-        (None, Outcome::Panicked(_)) => Ok(()),
-        (Some(mut sides), Outcome::Made(o)) => {
+    let what = match (end, outcome) {
+        (End::NoPlace, Outcome::Panicked(_)) => None,
+        (End::Barred(mut sides), Outcome::Made(o)) => plan_differs(r, &mut sides, figures, &o)?,
+        (End::Finished(mut sides), Outcome::Made(o)) => {
             let what = plan_differs(r, &mut sides, figures, &o)?;
             figures.originals += 1;
-            match what.or_else(|| columns_differ(&sides, &o)) {
-                None => Ok(()),
-                Some(what) => Err(format!("library and original differ: {what}")),
-            }
+            what.or_else(|| columns_differ(&sides, &o))
         }
-        _ => Err("library and original: one refuses, the other does not".to_string()),
+        _ => return Err("library and original: one refuses, the other does not".to_string()),
+    };
+    match what {
+        None => Ok(()),
+        Some(what) => Err(format!("library and original differ: {what}")),
     }
 }
 

@@ -68,7 +68,7 @@ fn run_padded(
     #[cfg(upstream)]
     if unpadded::shared(x) {
         let outcome = oracle::padded(&x.listing(), 1);
-        crate::original::compare(r, f, outcome, Some(sides))?;
+        crate::original::compare(r, f, outcome, crate::script::End::Finished(sides))?;
     }
     #[cfg(not(upstream))]
     let _ = (sides, x);

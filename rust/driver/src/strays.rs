@@ -49,6 +49,7 @@ fn fault(r: &mut Random, x: &Circuit, section: Section) -> Vec<u64> {
     let [n, _, _, _, v, _, w, _] = x.parameters;
     let gate = r.within(0, x.gates.len() as u64 - 1);
     let has = x.gates[gate as usize][2];
+    let dropped = x.gates.iter().position(|gate| gate[0] == 2);
     let bad = r.pick(&[P, P + 1, u64::MAX]);
     let table = |rows: u64, words: u64, word: u64| {
         let mut record = vec![w, rows];
@@ -60,6 +61,8 @@ fn fault(r: &mut Random, x: &Circuit, section: Section) -> Vec<u64> {
         (Section::Rows, 1) => [vec![gate, has + 1], vec![3; has as usize + 1]].concat(),
         (Section::Rows, 2) => vec![gate, r.pick(&[1, 2, has + 2, u64::MAX, u64::MAX - 1]), 4],
         (Section::Rows, 3) => vec![gate],
+        // 23, where the all-0 path is not a kind 1 gate's
+        (Section::Rows, 4) if dropped.is_some() => vec![dropped.unwrap() as u64, 0],
         (Section::Rows, _) => vec![gate, 1, bad],
         (Section::SWords, _) => vec![bad, r.word()],
         (Section::Cells, 0) => vec![1 << 48, v],

@@ -74,7 +74,7 @@ impl<'a> Intake<'a> {
         &self.state
     }
 
-    /// Row records: gate, number of constants, constants. Refusals 12, 11, 13.
+    /// Row records: gate, number of constants, constants. Refusals 12, 23, 11, 13.
     pub fn rows(&mut self, piece: &[u64]) -> Result<(), Refusal> {
         answer(raw::rows(&mut self.state, piece, self.lent.constants))
     }

@@ -115,7 +115,9 @@ pub enum Gate {
     },
     /// A marker with selector.
     Marker,
-    /// A marker without selector.
+    /// A marker without selector. Its rows are all zeros, and switch on the gate on the all-0 path: unless
+    /// it is the only gate, they are accepted only where that one is a [`Gate::Marker`], and refused
+    /// with 23 otherwise.
     Unselected,
     /// The lookup marker: the first gate in modes 1 and 2, and only there.
     Lookup,

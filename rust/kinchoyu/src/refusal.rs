@@ -44,6 +44,8 @@ refusals! {
         "there are not eight parameters, or the words are no whole listing or no list of calls";
     NoMarker = 21: "no gate of kind 1 is listed, and padding adds rows of one";
     TooLong = 22: "the length after padding passes 65,536";
+    MarkerRow = 23:
+        "a row of a kind 2 gate would switch on the gate on the all-0 path, which is not of kind 1";
 }
 
 impl Refusal {
@@ -52,7 +54,7 @@ impl Refusal {
         ALL.iter().map(|(refusal, _)| *refusal)
     }
 
-    /// The refusal of a number from 1 to 22.
+    /// The refusal of a number from 1 to 23.
     pub fn from_number(number: u64) -> Option<Refusal> {
         Refusal::all().find(|refusal| refusal.number() == number)
     }

@@ -9,7 +9,10 @@ const PARAMETERS: Parameters = Parameters {
     variables: 3,
     lookup: Lookup::SpecialisedAsConstant { width: 2, share: true },
 };
-const GATES: [Gate; 2] = [Gate::Evaluated { degree: 2, constants: 1 }, Gate::Unselected];
+const FIRST: Gate = Gate::Evaluated { degree: 2, constants: 1 };
+const GATES: [Gate; 3] = [FIRST, Gate::Unselected, Gate::Marker];
+/// Without a marker that ends on the all-0 path.
+const BARRED: [Gate; 2] = [FIRST, Gate::Unselected];
 
 fn plan() -> Plan {
     Plan::new(&PARAMETERS, &GATES).unwrap()
@@ -19,7 +22,7 @@ fn plan() -> Plan {
 fn fill(intake: &mut Intake) -> Result<(), Refusal> {
     intake.s_words_from(1..5)?;
     intake.rows_from([(0, [6]), (0, [7])])?;
-    intake.rows(&[1, 0, 0, 0])?;
+    intake.rows(&[1, 0, 2, 0])?;
     intake.table_from(2, [[1, 2], [3, 4]])?;
     intake.table_from(2, [] as [[u64; 2]; 0])?;
     intake.tables(&[2, 1, 5, 6])?;
@@ -36,9 +39,9 @@ fn columns_of_a_circuit_in_pieces() {
     intake.cells(&[0]).unwrap();
     intake.finish().unwrap();
     assert_eq!(intake.finish(), Err(Refusal::MadeUp));
-    assert!(columns.constant_columns().eq([[6, 7, 0, 0], [1, 2, 3, 4]]));
+    assert!(columns.constant_columns().eq([[1, 1, 0, 0], [6, 7, 0, 0], [1, 2, 3, 4]]));
     assert!(columns.table_columns().eq([[1, 3, 5, 0], [2, 4, 6, 0], [1, 1, 3, 0]]));
-    assert_eq!(columns.constants(), [6, 7, 0, 0, 1, 2, 3, 4]);
+    assert_eq!(columns.constants(), [1, 1, 0, 0, 6, 7, 0, 0, 1, 2, 3, 4]);
     assert_eq!(columns.tables(), [1, 3, 5, 0, 2, 4, 6, 0, 1, 1, 3, 0]);
     let own: Vec<u64> = (0..4).map(|cell| label(4, 1, cell).unwrap()).collect();
     assert!(columns.copy_columns().eq([[own[2], own[1], own[0], own[3]]]));
@@ -93,10 +96,10 @@ fn what_is_asked_of_a_plan() {
     let plan = plan();
     assert_eq!(plan.parameters(), PARAMETERS);
     let stats = plan.stats();
-    assert_eq!((stats.degree, stats.constants, stats.factor), (2, 1, 1));
-    assert_eq!(plan.table_id(), Some(1));
+    assert_eq!((stats.degree, stats.constants, stats.factor), (3, 2, 2));
+    assert_eq!(plan.table_id(), Some(2));
     assert_eq!(plan.path(1), Ok(Selection::NoSelector));
-    assert_eq!(plan.path(2), Err(Refusal::RowRecord));
+    assert_eq!(plan.path(3), Err(Refusal::RowRecord));
     let gates = [(2, 1), (1, 0)].map(|(degree, constants)| Gate::Evaluated { degree, constants });
     let parameters = Parameters { lookup: Lookup::None, ..PARAMETERS };
     let plan = Plan::new(&parameters, &[gates[0], gates[1], Gate::Marker]).unwrap();
@@ -155,7 +158,7 @@ fn no_selector() {
 
 #[test]
 fn what_a_path_call_writes() {
-    let dropped = plan();
+    let dropped = Plan::new(&PARAMETERS, &BARRED).unwrap();
     let asked = |plan: &[u64], gate: u64, length: usize| {
         let mut out = [7; 5];
         (raw::path(plan, gate, &mut out[..length]), out)
@@ -172,6 +175,51 @@ fn what_a_path_call_writes() {
         assert_eq!(asked(dropped.words(), 2, length), (12, [0, 0, 0, 7, 7]));
         assert_eq!(asked(&dropped.words()[1..], 1, length), (19, [0, 0, 0, 7, 7]));
     }
+}
+
+#[test]
+fn a_row_that_switches_on_another_gate_is_refused() {
+    let plan = Plan::new(&PARAMETERS, &BARRED).unwrap();
+    let mut columns = Columns::new(&plan);
+    let mut intake = Intake::open(&plan, columns.lend()).unwrap();
+    let opened = intake.state().to_vec();
+    for (row, refusal) in [
+        (&[1, 0][..], Refusal::MarkerRow),
+        (&[1, 1, 5], Refusal::RowRecord),
+        (&[1, 0, 0, 1, P], Refusal::MarkerRow),
+        (&[0, 1, P, 1, 0], Refusal::NotAnElement),
+    ] {
+        assert_eq!(intake.rows(row), Err(refusal), "{row:?}");
+    }
+    assert_eq!(intake.state(), opened);
+    intake.rows(&[0, 0].repeat(4)).unwrap();
+    // past N, and not 13
+    assert_eq!(intake.rows(&[1, 0]), Err(Refusal::MarkerRow));
+    intake.s_words(&[0; 4]).unwrap();
+    intake.cells(&[0; 4]).unwrap();
+    assert_eq!(intake.finish(), Err(Refusal::UnusedGate));
+    assert!(columns.constants().iter().all(|word| *word == 0));
+}
+
+#[test]
+fn a_listing_with_such_a_row_is_refused() {
+    // gates (0,1,0), then those given and one of kind 2; a row of each
+    let listing = |trace: u64, between: &[[u64; 3]]| {
+        let gates = [&[[0, 1, 0]], between, &[[2, 0, 0]]].concat();
+        let mut words = vec![8, trace, 1, 0, 0, 0, 0, 0, 0, gates.len() as u64];
+        words.extend(gates.iter().flatten());
+        words.push(gates.len() as u64);
+        (0..gates.len() as u64).for_each(|gate| words.extend([gate, 0]));
+        words.extend([0, trace]);
+        words.extend(vec![1 << 63; trace as usize]);
+        words.push(0);
+        words
+    };
+    assert_eq!(run(&listing(2, &[])), Err(Refusal::MarkerRow));
+    assert_eq!(run(&listing(4, &[[0, 1, 0], [1, 0, 0]])), Err(Refusal::MarkerRow));
+    assert_eq!(pad(&listing(4, &[[0, 1, 0], [1, 0, 0]])), Err(Refusal::MarkerRow));
+    // padded, the marker on the all-0 path
+    assert!(run(&pad(&listing(3, &[[1, 0, 0]])).unwrap()).is_ok());
 }
 
 #[test]
@@ -221,8 +269,8 @@ fn what_a_call_for_representatives_writes() {
 #[test]
 fn refusals_have_the_numbers_of_the_documents() {
     let numbers: Vec<u64> = Refusal::all().map(Refusal::number).collect();
-    assert_eq!(numbers, (1..23).collect::<Vec<u64>>());
-    assert_eq!((Refusal::from_number(0), Refusal::from_number(23)), (None, None));
+    assert_eq!(numbers, (1..24).collect::<Vec<u64>>());
+    assert_eq!((Refusal::from_number(0), Refusal::from_number(24)), (None, None));
     let said = Refusal::Variable.to_string();
     assert_eq!(said, "refused 14 (Variable): a cell names a variable that is not below V");
     let wide = Parameters { trace: 131072, ..PARAMETERS };
@@ -358,7 +406,7 @@ fn a_list_of_calls_leaves_what_its_calls_leave() {
     let (mut listed, mut single) = (Columns::new(&plan), Columns::new(&plan));
     let mut list = Calls::new();
     assert!(list.is_empty());
-    list.s_words(&[1, 2, 3, 4]).rows(&[0, 1, 6, 0, 1, 7]).rows(&[2, 0]).rows(&[1, 0, 0, 0]);
+    list.s_words(&[1, 2, 3, 4]).rows(&[0, 1, 6, 0, 1, 7]).rows(&[3, 0]).rows(&[1, 0, 2, 0]);
     list.tables(&[2, 2, 1, 2, 3, 4, 2, 0, 2, 1, 5, 6]).finish().cells(&[2, 1 << 63, 2, 0]);
     list.finish().finish();
     assert_eq!(list.len(), 9);

@@ -113,12 +113,20 @@ fn opened(state: &State) -> Result<(Parameters, Vec<Gate>, Tree), u64> {
     Ok((p, gates, tree))
 }
 
+/// 02, Change 4, of each gate: whether its row is "a kind 2 row in a longer list whose all-0 path is
+/// not of kind 1".
+fn barred(gates: &[Gate], tree: &Tree) -> Vec<bool> {
+    let all_0 = tree.all_0();
+    gates.iter().map(|gate| gates.len() > 1 && gate.kind == 2 && all_0.kind != 1).collect()
+}
+
 /// One row record at the front of the words: gate, constants, and the words after it.
 /// "12 record cut short, gate unknown, or more constants than its gate has; 11 a word not
-/// below p; 13 past N."
+/// below p; 13 past N." 02's 23 is "tested for each row after 12".
 fn row_record<'a>(
     words: &'a [u64],
     gates: &[Gate],
+    barred: &[bool],
     room: u64,
 ) -> Result<(u64, &'a [u64], &'a [u64]), u64> {
     if words.len() < 2 || words[1] > words.len() as u64 - 2 {
@@ -127,6 +135,9 @@ fn row_record<'a>(
     let (gate, count) = (words[0], words[1] as usize);
     if gate >= gates.len() as u64 || count as u64 > gates[gate as usize].constants {
         return Err(12);
+    }
+    if barred[gate as usize] {
+        return Err(23);
     }
     let (constants, rest) = words[2..].split_at(count);
     if constants.iter().any(|word| *word >= P) {
@@ -147,17 +158,18 @@ fn selectors(answer: &PathAnswer) -> Result<Vec<u64>, u64> {
     }
 }
 
-/// Rows, "first faulty record: 19; 10; 12 ...; 11 ...; 13 past N". "A row writes its
+/// Rows, "first faulty record: 19; 10; 12 ...; 11 ...; 13 past N", 23 after 12. "A row writes its
 /// gate's path, then its constants, then zeros".
 pub fn rows(state: &State, piece: &[u64], constants: &mut [u64]) -> Result<State, u64> {
     let (p, gates, tree) = opened(state)?;
     long_enough(constants, constants_length(&state.plan))?;
     let paths: Vec<_> = (0..gates.len() as u64).map(|gate| path_in(&gates, &tree, gate)).collect();
+    let barred = barred(&gates, &tree);
     let mut after = state.clone();
     let mut written = vec![];
     let mut words = piece;
     while !words.is_empty() {
-        let (gate, row_constants, rest) = row_record(words, &gates, p.n - after.rows)?;
+        let (gate, row_constants, rest) = row_record(words, &gates, &barred, p.n - after.rows)?;
         let mut row = selectors(&paths[gate as usize])?;
         row.extend(row_constants);
         row.resize(state.plan.k as usize, 0);

@@ -117,6 +117,12 @@ impl Tree {
         }
     }
 
+    /// The gate on the all-0 path; "where one gate is placed, its empty path counts as that path".
+    pub fn all_0(&self) -> Gate {
+        let mut leaves = self.leaves().into_iter();
+        leaves.find(|(_, path)| !path.contains(&true)).unwrap().0
+    }
+
     /// "D is the greatest degree at depth".
     pub fn d(&self) -> u64 {
         let depths =

@@ -24,6 +24,7 @@ fn random(count: u64, seed: u64) -> bool {
         match compare(&circuit, Some(&mut r)) {
             Verdict::Same => figures.accept(&circuit),
             Verdict::Refused(8, Some(_)) => figures.refused_8 += 1,
+            Verdict::Refused(23, None) => figures.refused_23 += 1,
             Verdict::Refused(number, _) => {
                 return report(&circuit, &format!("the model refused: {number}"))
             }

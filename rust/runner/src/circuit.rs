@@ -64,6 +64,14 @@ impl Circuit {
         }
     }
 
+    /// Whether it has a row that is refused with 23.
+    pub fn barred(&self) -> bool {
+        let kind = |row: &Vec<u64>| self.gates.get(row[0] as usize).map(|gate| gate[0]);
+        self.gates.len() > 1
+            && self.rows.iter().any(|row| kind(row) == Some(2))
+            && blocked(self.parameters, &self.gates)
+    }
+
     /// As document 01 writes listings: words parted by spaces, records by commas,
     /// sections by semicolons; placeholders and long runs shortened.
     pub fn written(&self) -> String {
@@ -91,6 +99,17 @@ impl Circuit {
         ];
         sections.map(|s| s.trim_end_matches(": ").to_string()).join("; ")
     }
+}
+
+/// Whether no kind 1 gate of a list has a path of zeros alone, so that a row of a kind 2 gate is
+/// refused with 23. False where the list gets no tree.
+pub fn blocked(mut parameters: [u64; 8], gates: &[[u64; 3]]) -> bool {
+    // the search does not read N, which may be an unpadded circuit's
+    parameters[0] = 1;
+    let listed = model::gates::check(parameters, &gates.concat());
+    let Ok(found) = listed.and_then(|gates| model::search::search(&gates)) else { return false };
+    let mut leaves = found.tree.leaves().into_iter();
+    !leaves.any(|(gate, path)| gate.kind == 1 && !path.contains(&true))
 }
 
 fn name(word: &u64) -> String {

@@ -2,6 +2,7 @@
 use crate::circuit::Circuit;
 use crate::pieces;
 use crate::random::Random;
+use crate::switched;
 use model::field::P;
 use model::listing::Buffers;
 use model::plan::MOST_NODES;
@@ -65,13 +66,19 @@ pub fn compare(circuit: &Circuit, cuts: Option<&mut Random>) -> Verdict {
     match (modelled(&words), outcome) {
         (_, Outcome::Malformed) => Verdict::Different("the oracle took no listing".to_string()),
         (Err(number), Outcome::Panicked(message)) => Verdict::Refused(number, Some(message)),
+        (Err(23), Outcome::Made(o)) => match barred_difference(circuit, &o) {
+            None => Verdict::Refused(23, None),
+            Some(what) => Verdict::Different(what),
+        },
         (Err(number), Outcome::Made(_)) => Verdict::Refused(number, None),
         (Ok(_), Outcome::Panicked(message)) => {
             Verdict::Different(format!("the original panicked: {message}"))
         }
         (Ok(m), Outcome::Made(o)) => {
+            let rows = circuit.rows.iter().map(|row| row[0]);
+            let switched = || switched::wrong(&circuit.gates, &o.paths, rows, &o.constants);
             let cut = || pieces::difference(cuts?, circuit, &m);
-            match difference(&m, &o).or_else(cut) {
+            match difference(&m, &o).or_else(switched).or_else(cut) {
                 None => Verdict::Same,
                 Some(what) => Verdict::Different(what),
             }
@@ -79,13 +86,31 @@ pub fn compare(circuit: &Circuit, cuts: Option<&mut Random>) -> Verdict {
     }
 }
 
-/// The first thing in which the two answers differ.
-pub fn difference(m: &Modelled, o: &Output) -> Option<String> {
-    let stats = (m.plan.d, m.plan.k, m.plan.f);
+/// Of a circuit that the model refused with 23 and the original took: its plan is the original's,
+/// and by the original's paths a row of it is one that 02 refuses.
+fn barred_difference(circuit: &Circuit, o: &Output) -> Option<String> {
+    let plan = match model::plan(circuit.parameters, &circuit.gates.concat()) {
+        Ok(plan) => plan,
+        Err(number) => return Some(format!("refused 23, and planning says {number}")),
+    };
+    let listed = circuit.rows.iter().map(|row| row[0] as usize).filter(|g| *g < o.paths.len());
+    let barred = listed.into_iter().any(|gate| switched::barred(&circuit.gates, &o.paths, gate));
+    let free = || (!barred).then(|| "refused 23, and no row of it may be".to_string());
+    plan_difference(&plan, o).or_else(free)
+}
+
+/// D, K, F and the tree.
+fn plan_difference(plan: &Plan, o: &Output) -> Option<String> {
+    let stats = (plan.d, plan.k, plan.f);
     if stats != (o.d, o.k, o.f) {
         return Some(format!("D K F: model {stats:?}, original {:?}", (o.d, o.k, o.f)));
     }
-    if let Some(what) = tree_difference(&m.plan, o) {
+    tree_difference(plan, o)
+}
+
+/// The first thing in which the two answers differ.
+pub fn difference(m: &Modelled, o: &Output) -> Option<String> {
+    if let Some(what) = plan_difference(&m.plan, o) {
         return Some(what);
     }
     let [constants, copies, _, tables] = lengths(&m.plan);

@@ -1,4 +1,4 @@
-//! Circuits that document 01 turns down: what the original does with each, and its
+//! Circuits that documents 01 and 02 turn down: what the original does with each, and its
 //! smallest input. Every line of the table comes from a run.
 use crate::circuit::{Circuit, PLACEHOLDER};
 use oracle::Outcome;
@@ -120,6 +120,7 @@ fn rows() -> Vec<Case> {
         x.cells = vec![PLACEHOLDER; 4];
     });
     let unused = edited(two, |x| x.rows[1] = vec![0, 0]);
+    let lookup = list(1, &[LOOKUP, [2, 0, 0]]);
     vec![
         case(12, "gate unknown, no constant column", Takes, tall(|x| x.rows[1] = vec![1, 0])),
         case(12, "gate unknown, a constant column", Panics, four),
@@ -127,6 +128,8 @@ fn rows() -> Vec<Case> {
         case(13, "a row past N", Takes, nop(&|x| x.rows.push(vec![0, 0]))),
         case(16, "rows missing", Takes, tall(|x| x.rows.truncate(1))),
         case(17, "a gate in no row", Panics, unused),
+        case(23, "kind 2 beside an evaluated gate", Takes, list(0, &[ONE, [2, 0, 0]])),
+        case(23, "kind 2 beside the lookup gate", Takes, lookup),
     ]
 }
 
@@ -185,10 +188,15 @@ pub fn padded_cases() -> Vec<Case> {
     let tables = flat(&|x| x.tables = vec![vec![0, 65536], vec![0, 1]]);
     let evaluated = flat(&|x| (x.gates, x.rows) = (vec![ONE], vec![vec![0, 0]]));
     let high = edited(lone(|p| p[0] = 2), |x| x.rows.clear());
+    let barred = flat(&|x| {
+        x.gates = vec![ONE, ONE, NOP, [2, 0, 0]];
+        x.rows = [0, 1, 3].map(|gate| vec![gate, 0]).to_vec();
+    });
     vec![
         case(21, "no kind 1 gate", Panics, evaluated),
         case(22, "65,536 rows", Panics, flat(&|x| x.rows = vec![vec![0, 0]; 65536])),
         case(22, "65,537 table rows", Panics, tables),
+        case(23, "kind 2, and the kind 1 gate on another path", Takes, barred),
         case(0, "N above the rows plus one, S = 0, mode 0", Takes, high),
     ]
 }

@@ -13,6 +13,8 @@ struct Tally {
     equal: BTreeMap<u64, u64>,
     /// Turned down with 6, which the original may take.
     refused_6: u64,
+    /// Turned down with 23 and taken by the original, the plans being equal.
+    refused_23: BTreeMap<u64, u64>,
 }
 
 impl Tally {
@@ -21,6 +23,9 @@ impl Tally {
         match compare(circuit, None) {
             Verdict::Same => *self.equal.entry(circuit.parameters[5]).or_default() += 1,
             Verdict::Refused(6, _) => self.refused_6 += 1,
+            Verdict::Refused(23, None) => {
+                *self.refused_23.entry(circuit.parameters[5]).or_default() += 1
+            }
             Verdict::Refused(number, _) => {
                 return report(circuit, &format!("the model refused: {number}"))
             }
@@ -31,6 +36,7 @@ impl Tally {
 
     fn print(&self, name: &str) {
         println!("{name}: equal by mode {:?}; refused with 6: {}", self.equal, self.refused_6);
+        println!("  refused with 23, plans equal, by mode {:?}", self.refused_23);
     }
 }
 

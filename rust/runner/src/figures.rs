@@ -7,6 +7,8 @@ pub struct Figures {
     pub accepted: u64,
     /// Turned down with 8 by the model, and by the original's panic.
     pub refused_8: u64,
+    /// Turned down with 23 by the model, and taken by the original.
+    pub refused_23: u64,
     counts: BTreeMap<&'static str, BTreeMap<u64, u64>>,
 }
 
@@ -33,6 +35,8 @@ impl Figures {
         self.mark("C = 1", c == 1);
         self.mark("C = 64", c == 64);
         self.mark("coset region, N >= 64 and C >= 24", n >= 64 && c >= 24);
+        let dropped = circuit.gates.len() > 1 && circuit.gates.iter().any(|gate| gate[0] == 2);
+        self.mark("a kind 2 gate beside others", dropped);
         self.mark("A = 0", a == 0);
         self.mark("A = 16", a == 16);
         self.mark("S = 0", s == 0);
@@ -62,6 +66,7 @@ impl Figures {
     pub fn print(&self) {
         println!("circuits accepted and equal: {}", self.accepted);
         println!("circuits turned down with 8, panic in the original: {}", self.refused_8);
+        println!("circuits turned down with 23, taken by the original: {}", self.refused_23);
         for (what, values) in &self.counts {
             let texts: Vec<String> = values.iter().map(|(v, n)| format!("{v}: {n}")).collect();
             match texts.as_slice() {

@@ -1,5 +1,5 @@
 //! Random circuits, most of which document 01 accepts.
-use crate::circuit::{Circuit, PLACEHOLDER};
+use crate::circuit::{blocked, Circuit, PLACEHOLDER};
 use crate::random::Random;
 
 /// How tall and wide a circuit may be.
@@ -176,8 +176,23 @@ pub fn planned(r: &mut Random, size: Size) -> ([u64; 8], Vec<[u64; 3]>) {
     ([n, c, a, s, v, mode, w, flag], gates)
 }
 
+/// Takes the kind 2 gates out of a list in which their rows are refused with 23, but for one such
+/// list in ten. Where a lookup mode's only other gate would be left they become kind 1 gates.
+pub fn unblocked(r: &mut Random, parameters: [u64; 8], gates: &mut Vec<[u64; 3]>) {
+    let dropped = gates.iter().filter(|gate| gate[0] == 2).count();
+    if dropped == 0 || gates.len() == 1 || !blocked(parameters, gates) || r.once_in(10) {
+        return;
+    }
+    if gates.len() - dropped == 1 && parameters[5] != 0 {
+        gates.iter_mut().filter(|gate| gate[0] == 2).for_each(|gate| gate[0] = 1);
+    } else {
+        gates.retain(|gate| gate[0] != 2);
+    }
+}
+
 pub fn circuit(r: &mut Random, size: Size) -> Circuit {
-    let (parameters, gates) = planned(r, size);
+    let (parameters, mut gates) = planned(r, size);
+    unblocked(r, parameters, &mut gates);
     filled(r, parameters, gates)
 }
 
@@ -195,13 +210,28 @@ fn filled(r: &mut Random, parameters: [u64; 8], gates: Vec<[u64; 3]>) -> Circuit
     }
 }
 
+/// As many gates as there may be. In modes 0, 2 and 4: 63 like ones, as many of kind 1 that one of
+/// these ends on the all-0 path, and one of kind 2, whose rows are thus accepted. In modes 1 and 3:
+/// many shapes, one of kind 1.
+fn most_gates(r: &mut Random, mode: u64) -> Vec<[u64; 3]> {
+    let mut gates: Vec<[u64; 3]> = (0..128).map(|_| evaluated(r, 64, 16)).collect();
+    gates[1] = [1, 0, 0];
+    if mode % 2 == 0 {
+        gates[..64].fill([0, 64, 16]);
+        gates[64..].fill([1, 0, 0]);
+        gates[127] = [2, 0, 0];
+    }
+    match mode {
+        0 | 4 => gates[63] = [1, 0, 0],
+        1 | 2 => gates[0] = [3, 0, 0],
+        _ => {}
+    }
+    gates
+}
+
 /// Every parameter at its upper end, and as many gates as there may be.
 pub fn corner(r: &mut Random, mode: u64) -> Circuit {
-    let mut gates: Vec<[u64; 3]> = (0..128).map(|_| evaluated(r, 64, 16)).collect();
-    gates[1..3].copy_from_slice(&[[1, 0, 0], [2, 0, 0]]);
-    if mode == 1 || mode == 2 {
-        gates[0] = [3, 0, 0];
-    }
+    let gates = most_gates(r, mode);
     let (w, flag) = if mode == 0 { (0, 0) } else { (16, 1) };
     filled(r, [65536, 64, 16, 16, 1048576, mode, w, flag], gates)
 }

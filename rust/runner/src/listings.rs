@@ -73,6 +73,10 @@ fn ends() -> Vec<Circuit> {
             x.s_words = vec![w];
         })
     };
+    let barred = |rows: &[&[u64]]| {
+        let x = Circuit::plain([2, 1, 0, 0, 0, 0, 0, 0], &[[0, 64, 0], [2, 0, 0]]);
+        with(x, &|x| x.rows = rows.iter().map(|row| row.to_vec()).collect())
+    };
     vec![
         Circuit::nop(1, 1, 0),
         with(Circuit::nop(65536, 1, 0), &tall),
@@ -88,9 +92,16 @@ fn ends() -> Vec<Circuit> {
         with(two, &|x| x.rows = vec![vec![1, 0], vec![1, 0]]),
         value(P - 1),
         value(P),
-        // empty paths: of a lone kind 2 gate, and of a gate beside one without selector
+        // a lone kind 2 gate; one without selector, the all-0 path being a kind 1 gate's
         Circuit::plain([1, 1, 0, 0, 0, 0, 0, 0], &[[2, 0, 0]]),
-        Circuit::plain([2, 1, 0, 0, 0, 0, 0, 0], &[[0, 64, 0], [2, 0, 0]]),
+        Circuit::plain([4, 1, 0, 0, 0, 0, 0, 0], &[[0, 2, 0], [2, 0, 0], [1, 0, 0]]),
+        // another gate's: 23, also past N, 12 before it, 17 without such a row
+        barred(&[&[0, 0], &[1, 0]]),
+        barred(&[&[0, 0], &[0, 0], &[1, 0]]),
+        barred(&[&[0, 0], &[1, 1, 5]]),
+        barred(&[&[0, 0], &[0, 0]]),
+        // the lookup gate's, with a kind 1 gate on another path
+        Circuit::plain([4, 1, 0, 0, 0, 1, 1, 1], &[[3, 0, 0], [0, 2, 0], [1, 0, 0], [2, 0, 0]]),
     ]
 }
 

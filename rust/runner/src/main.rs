@@ -45,6 +45,8 @@ mod random;
 #[cfg(upstream)]
 mod record;
 #[cfg(upstream)]
+mod switched;
+#[cfg(upstream)]
 mod unpadded;
 
 #[cfg(not(upstream))]

@@ -7,9 +7,10 @@ use crate::differences::{cases, padded_cases, Rust};
 use crate::faults::sayable;
 use crate::generate::{self, Size};
 use crate::random::Random;
+use crate::switched;
 use crate::unpadded::{self, shared};
 use model::field::P;
-use model::listing::{sections, Sections};
+use model::listing::{row_length, sections, Sections};
 use oracle::Outcome;
 use std::collections::{BTreeMap, BTreeSet};
 
@@ -31,11 +32,23 @@ fn kept(x: &Circuit, padded: &Sections) -> bool {
         && columns_begin(c, &x.cells, from, padded.cells, length)
 }
 
+/// The gate of each row of a section.
+fn row_gates(mut words: &[u64]) -> impl Iterator<Item = u64> + '_ {
+    std::iter::from_fn(move || {
+        let (gate, length) = (*words.first()?, row_length(words)? as usize);
+        words = &words[length..];
+        Some(gate)
+    })
+}
+
 /// What differs between the model's padded circuit and the original's; outside the shared domain
 /// the model's alone has to be accepted.
 fn padded_difference(x: &Circuit, words: &[u64], padded: &[u64], cores: usize) -> Option<String> {
-    if !sections(padded).is_some_and(|all| kept(x, &all)) {
+    let Some(all) = sections(padded).filter(|all| kept(x, all)) else {
         return Some("a given word is not in the padded listing".to_string());
+    };
+    if x.barred() {
+        return Some("a row of it is not refused with 23".to_string());
     }
     let made = match modelled(padded) {
         Ok(made) => made,
@@ -45,7 +58,8 @@ fn padded_difference(x: &Circuit, words: &[u64], padded: &[u64], cores: usize) -
         return None;
     }
     match oracle::padded(words, cores) {
-        Outcome::Made(o) => difference(&made, &o),
+        Outcome::Made(o) => difference(&made, &o)
+            .or_else(|| switched::wrong(&x.gates, &o.paths, row_gates(all.rows), &o.constants)),
         Outcome::Panicked(message) => Some(format!("the original panicked: {message}")),
         Outcome::Malformed => Some("the oracle took no listing".to_string()),
     }
@@ -115,6 +129,7 @@ impl Figures {
             ("length 65,536", length == 65536),
             ("more rows than N", x.rows.len() as u64 > x.parameters[0]),
             ("no row of the first kind 1 gate", x.rows.iter().all(|row| Some(row[0]) != first)),
+            ("a kind 2 gate", x.gates.len() > 1 && x.gates.iter().any(|gate| gate[0] == 2)),
             ("kind 1 twice or more", x.gates.iter().filter(|gate| gate[0] == 1).count() > 1),
         ];
         for (what, met) in marks {
@@ -156,7 +171,7 @@ fn drawn(r: &mut Random) -> (Circuit, bool) {
     (x, faulty)
 }
 
-/// What differs, if anything. Without a fault 8, 21 and 22 alone may come.
+/// What differs, if anything. Without a fault 8, 21, 22 and 23 alone may come.
 fn one(figures: &mut Figures, x: &Circuit, faulty: bool, cores: u64) -> Option<String> {
     let words = x.listing();
     let number = match model::pad(&words) {
@@ -166,7 +181,7 @@ fn one(figures: &mut Figures, x: &Circuit, faulty: bool, cores: u64) -> Option<S
         }
         Err(number) => number,
     };
-    if !faulty && ![8, 21, 22].contains(&number) {
+    if !faulty && ![8, 21, 22, 23].contains(&number) || number == 23 && !x.barred() {
         return Some(format!("the model refused: {number}"));
     }
     let rust = original(x, &words);

@@ -1,7 +1,7 @@
 //! Random unpadded circuits: columns of any height N, fewer or more rows, tables of any height;
 //! and faults in them.
 use crate::circuit::{Circuit, PLACEHOLDER};
-use crate::generate::{cell, planned, rows, tables, Size};
+use crate::generate::{cell, planned, rows, tables, unblocked, Size};
 use crate::random::Random;
 use model::field::P;
 
@@ -35,6 +35,7 @@ pub fn circuit(r: &mut Random, size: Size) -> Circuit {
     if !r.once_in(20) {
         with_marker(r, &mut gates);
     }
+    unblocked(r, parameters, &mut gates);
     let [n, c, _, s, v, mode, w, _] = parameters;
     let height = around(r, n).min(65536);
     parameters[0] = height;

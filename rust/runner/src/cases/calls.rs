@@ -66,6 +66,84 @@ pub fn rows(c: &mut Checks) {
     c.same("zeros are written", &b.constants[..5], &[0, 77, 77, 77, 99]);
 }
 
+/// "23 a kind 2 row in a longer list whose all-0 path is not of kind 1, tested for each row after 12."
+pub fn barred(c: &mut Checks) {
+    let (two, gates) = ([2, 1, 1, 0, 0, 0, 0, 0], [0, 1, 1, 2, 0, 0]);
+    for (name, piece, number) in [
+        ("a barred row", &[1, 0][..], 23),
+        ("12 before 23: a constant", &[1, 1, 5], 12),
+        ("12 before 23: a constant not below p", &[1, 1, P], 12),
+        ("12 before 23: cut short", &[1], 12),
+        ("12 before 23: cut short", &[1, 1], 12),
+        ("12 before 23: cut short", &[1, u64::MAX], 12),
+        ("the gate after a barred one", &[2, 0], 12),
+        ("first faulty record: 23 before a later 11", &[1, 0, 0, 1, P], 23),
+        ("first faulty record: 11 before a later 23", &[0, 1, P, 1, 0], 11),
+        ("first faulty record: 23 before a later 12", &[1, 0, 2, 0], 23),
+        ("first faulty record: 23 before a later 12", &[1, 0, 0], 23),
+        ("first faulty record: 12 before a later 23", &[0, 2, 1, 1, 1, 0], 12),
+        ("barred after a good row", &[0, 1, 4, 1, 0], 23),
+        ("barred and past N", &[0, 0, 0, 0, 1, 0], 23),
+        ("past N before a barred one", &[0, 0, 0, 0, 0, 0, 1, 0], 13),
+        ("12 and past N", &[0, 0, 0, 0, 1, 1, 5], 12),
+        ("rows of the other gate", &[0, 0, 0, 1, 4], 0),
+    ] {
+        let got = rows_number(two, &gates, piece);
+        c.same(name, got.0, number);
+        c.same(name, got.1 || number == 0, true);
+    }
+    let in_mode = |mode: u64| [4, 1, 1, 1, 0, mode, (mode != 0) as u64, (mode != 0) as u64];
+    for (name, mode, gates, number) in [
+        ("one placed gate, of kind 0", 0, &[2, 0, 0, 0, 1, 0][..], 23),
+        ("a lone kind 2 gate", 0, &[2, 0, 0], 0),
+        ("the all-0 path is of kind 1", 0, &[2, 0, 0, 0, 2, 0, 1, 0, 0], 0),
+        ("the all-0 path is of kind 0", 0, &[2, 0, 0, 0, 2, 0, 0, 1, 0], 23),
+        ("kind 1 on another path", 0, &[2, 0, 0, 0, 1, 0, 0, 1, 0, 1, 0, 0], 23),
+        ("kind 1 twice", 0, &[2, 0, 0, 0, 1, 0, 0, 1, 0, 1, 0, 0, 1, 0, 0], 0),
+        ("kind 2 twice", 0, &[2, 0, 0, 0, 2, 0, 2, 0, 0], 23),
+        ("in mode 3", 3, &[2, 0, 0, 0, 2, 0], 23),
+        ("in mode 4", 4, &[2, 0, 0, 0, 2, 0, 1, 0, 0], 0),
+    ] {
+        c.same(name, rows_number(in_mode(mode), gates, &[0, 0]).0, number);
+    }
+    for (name, mode, gates, number) in [
+        ("the lookup gate placed alone", 1, &[3, 0, 0, 2, 0, 0][..], 23),
+        ("the lookup gate placed alone, with its constant", 2, &[3, 0, 0, 2, 0, 0], 23),
+        ("the lookup gate on the all-0 path", 1, &[3, 0, 0, 2, 0, 0, 0, 2, 0, 1, 0, 0], 23),
+        ("kind 1 on it", 1, &[3, 0, 0, 2, 0, 0, 0, 2, 0, 1, 0, 0, 1, 0, 0], 0),
+        ("kind 1 on it", 2, &[3, 0, 0, 2, 0, 0, 1, 0, 0], 0),
+    ] {
+        c.same(name, rows_number(in_mode(mode), gates, &[1, 0]).0, number);
+    }
+    others(c, two, &gates);
+}
+
+/// 23 among other calls and other numbers.
+fn others(c: &mut Checks, two: [u64; 8], gates: &[u64]) {
+    let (state, mut b) = opened(two, gates);
+    let barred = |state: &State, b: &mut Buffers| model::rows(state, &[1, 0], &mut b.constants);
+    c.same("10 before 23", barred(&state, &mut lent(1)), Err(10));
+    let finished = State { phase: FINISHED, ..state.clone() };
+    c.same("19 before 23", barred(&finished, &mut b), Err(19));
+    // refused, accepted, refused, cells, finishing: the gate is in no row
+    let list = [1, 2, 1, 0, 1, 4, 0, 0, 0, 0, 1, 2, 1, 0, 3, 2, HOLE, HOLE, 5, 0];
+    let (mut numbers, before) = ([99; 6], b.clone());
+    let Buffers { constants, copies, scratch, tables } = &mut b;
+    let after = model::run_calls(&state, &list, &mut numbers, constants, copies, scratch, tables);
+    c.same("such a list does not finish", numbers, [23, 0, 23, 0, 17, 99]);
+    let used = [1].into_iter().chain([0; 127]).collect::<Vec<u64>>().try_into().unwrap();
+    c.same("what is refused is left out", after, Ok(State { rows: 2, cells: 2, used, ..state }));
+    c.same("and leaves its words", b.constants, before.constants);
+    // a made-up plan: the tree decides
+    let three = [0, 2, 0, 1, 0, 0, 2, 0, 0];
+    let (mut state, mut b) = opened([4, 1, 0, 0, 0, 0, 0, 0], &three);
+    let row = |state: &State, b: &mut Buffers| model::rows(state, &[2, 0], &mut b.constants).err();
+    c.same("kind 1 right", row(&state, &mut b), None);
+    c.same("a row of zeros", &b.constants[..5], &[0, 0, 0, 0, 99]);
+    state.plan.nodes.swap(1, 2);
+    c.same("kind 1 left", row(&state, &mut b), Some(23));
+}
+
 pub fn words(c: &mut Checks) {
     let nop = [1, 0, 0];
     let s_number = |s: u64, piece: &[u64]| {

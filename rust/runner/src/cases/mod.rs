@@ -32,6 +32,7 @@ pub fn run() -> bool {
     plans::planning(&mut checks);
     plans::made_up(&mut checks);
     calls::rows(&mut checks);
+    calls::barred(&mut checks);
     calls::words(&mut checks);
     calls::tables(&mut checks);
     calls::states(&mut checks);
@@ -43,6 +44,7 @@ pub fn run() -> bool {
     padding::padded(&mut checks);
     padding::lengths(&mut checks);
     padding::counted(&mut checks);
+    padding::barred(&mut checks);
     println!("stated cases: {} held, {} failed", checks.held, checks.failed);
     checks.failed == 0
 }

@@ -93,3 +93,30 @@ pub fn counted(c: &mut Checks) {
         c.same(name, number(x.clone(), change), wanted);
     }
 }
+
+/// "other faults are the padded circuit's": 23 is one of the rows'.
+pub fn barred(c: &mut Checks) {
+    let dropped = [2, 0, 0];
+    let x = given([1, 1, 0, 1, 0, 0, 0, 0], &[ONE, ONE, MARKER, dropped], &[0, 1, 3]);
+    for (name, wanted, change) in [
+        ("kind 1 on another path", 23, (&|_: &mut Circuit| ()) as &dyn Fn(&mut Circuit)),
+        ("12 before 23 in one record", 12, &|x| x.rows[2] = vec![3, 1, 0]),
+        ("an earlier 12", 12, &|x| x.rows[0] = vec![4, 0]),
+        ("an earlier 23", 23, &|x| x.rows.push(vec![4, 0])),
+        ("22 before 23", 22, &|x| x.rows = vec![vec![3, 0]; 65536]),
+        ("23 before an S word's 11", 23, &|x| x.s_words[0] = P),
+        ("23 before 16", 23, &|x| x.cells.clear()),
+        ("the gate in no row", 17, &|x| x.rows.truncate(2)),
+        ("without kind 1", 21, &|x| x.gates[2] = dropped),
+        ("kind 1 twice", 0, &|x| {
+            x.gates.push(MARKER);
+            x.rows.push(vec![4, 0]);
+        }),
+        ("kind 1 on the all-0 path", 0, &|x| {
+            x.gates = vec![ONE, MARKER, dropped];
+            x.rows = vec![vec![0, 0], vec![2, 0]];
+        }),
+    ] {
+        c.same(name, number(x.clone(), change), wanted);
+    }
+}
