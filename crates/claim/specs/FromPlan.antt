@@ -36,6 +36,7 @@ module _ (q : Plan) (e : planFault q ≡ 0) (found : searchNumber (q .trace) (q 
       distinct-labels n c (good .ranges) (representativesOf n c) (search-cosets n c representatives-found) (labelsOf n c)
       (λ i h. table-at (c * n) (labelOf n (representativesOf n c)) i h)
 
+  -- an evaluated gate is of kind 0
   kind-0 : (g : ℕ) → settingOf q .evaluated g ≡ true → kindOf (gatesGiven q) g ≡ 0
   kind-0 g = eqb-true (kindOf (gatesGiven q) g) 0
 

@@ -105,6 +105,7 @@ pub record GatesOf (q : Plan) (r : GateRows) : Type 0 where
   pub spells-paths : Spells (r .many) (planPath q) (r .bits) (r .steps)
   pub room : Fits (toldBy r) (q .constants) (r .steps)
 
+-- a mark is 1 just where the rows are turned away
 marked-bar : (t : Bool) → eqb (pick t 1 0) 1 ≡ t
 marked-bar true = refl
 marked-bar false = refl
