@@ -1,4 +1,6 @@
 // Functions on words that every layer above needs. They know nothing of fields or circuits.
+#![tactic(auto)]
+
 ghost use Rattle.std.specs.Prelude.{◌≡◌, ℕ, ◌%◌, ◌^◌, max};
 ghost use Rattle.base.specs.Exponent.{exponent, is_power};
 
@@ -13,7 +15,7 @@ pub fn greater(a: u64, b: u64) -> u64
 }
 
 // A power of two: its exponent, and its value as far as a word holds it.
-#[derive(Drop)]
+#[derive(Clone, Copy)]
 pub struct Power {
     pub exponent: u64,
     pub value: u64,

@@ -21,7 +21,7 @@ use Rattle.tree.specs.Plan.{path_answer, plan_fault, plan_number, plan_selector,
 use Rattle.tree.specs.PlanLaws.{planned_fault}
 use Rattle.tree.specs.Selection.{selection_number, selection_of}
 use Rattle.tree.specs.declared.plan.Plan.{Plan}
-use Rattle.bytes.specs.Text.{decimal, places}
+use Rattle.octets.specs.Text.{decimal, places}
 use Rattle.report.specs.Report.{path_line}
 use Rattle.cases.specs.Columns.{Plans, one, selector-of, selectors_of}
 use Rattle.cases.specs.Listed.{tree}

@@ -1,1 +1,2 @@
 // 01, 'Worked circuits': facts about the rules, no code.
+#![tactic(auto)]

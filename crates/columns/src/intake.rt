@@ -15,7 +15,7 @@ use tree::plan::Plan;
 
 // A plan, how much of each section came in so far with the phase, and a mark for each gate that is in
 // a row.
-#[derive(Drop)]
+#[derive(Clone, Copy)]
 pub struct Intake {
     pub plan: Plan,
     pub counts: Counts,
@@ -23,7 +23,7 @@ pub struct Intake {
 }
 
 // 0 or a refusal number, and the state that the next call gets.
-#[derive(Drop)]
+#[derive(Clone, Copy)]
 pub struct Taken {
     pub number: u64,
     pub state: Intake,

@@ -1,4 +1,5 @@
 // 01, 'Columns by pieces': constant, copy and table columns, given in pieces.
+#![tactic(auto)]
 mod cells;
 mod finishing;
 pub mod intake;

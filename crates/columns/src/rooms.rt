@@ -9,7 +9,7 @@ ghost use Rattle.columns.specs.Rooms.{RoomsOf, Small};
 use tree::plan::Outline;
 
 // The named words of each buffer.
-#[derive(Drop)]
+#[derive(Clone, Copy)]
 pub struct Rooms {
     pub constants: usize,
     pub copies: usize,

@@ -45,7 +45,7 @@ fn row_fault(many: u64, own: &Marks, barred: &Marks, trace: u64, row: u64, words
 
 // What a test of row records found: 0 or the number of the first faulty one; where it is 0, how many
 // rows there are then.
-#[derive(Drop)]
+#[derive(Clone, Copy)]
 pub struct Tested {
     pub number: u64,
     pub rows: u64,

@@ -24,7 +24,7 @@ fn stage_line(at: usize, height: u64, bits: u64, steps: u64, words: &[u64], stag
 }
 
 // How many words of a piece are staged, and as how many rows.
-#[derive(Drop)]
+#[derive(Clone, Copy)]
 pub struct Staged {
     pub next: usize,
     pub rows: usize,

@@ -90,7 +90,7 @@ fn write_table(
 }
 
 // How many tables there are, and their rows in all.
-#[derive(Drop)]
+#[derive(Clone, Copy)]
 pub struct TableStack {
     pub count: u64,
     pub high: u64,

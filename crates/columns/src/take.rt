@@ -27,7 +27,7 @@ pub const OPEN: u64 = 1;
 pub const FINISHED: u64 = 2;
 
 // How much of each section came in so far, and the phase: a state without its plan and its marks.
-#[derive(Drop)]
+#[derive(Clone, Copy)]
 pub struct Counts {
     pub rows: u64,
     pub s_words: u64,
@@ -38,14 +38,14 @@ pub struct Counts {
 }
 
 // 0 or a refusal number, and the counts that the next call gets.
-#[derive(Drop)]
+#[derive(Clone, Copy)]
 pub struct Given {
     pub number: u64,
     pub counts: Counts,
 }
 
 // The same with a mark for each gate that is in a row.
-#[derive(Drop)]
+#[derive(Clone, Copy)]
 pub struct Marked {
     pub number: u64,
     pub counts: Counts,

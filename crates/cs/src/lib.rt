@@ -1,5 +1,6 @@
 // Variable and Witness, separate wrapped words as the original has them. Neither passes for a
 // row or a gate number.
+#![tactic(auto)]
 ghost use Rattle.std.specs.Prelude.{◌≡◌, leb};
 ghost use Rattle.pieces.specs.Cells.{placeholder, index_of};
 
@@ -10,7 +11,7 @@ const PLACEHOLDER_BIT: u64 = 9223372036854775808;
 const INDEX_BOUND: u64 = 281474976710656;
 
 // A cell word: a placeholder, or the index of a variable.
-#[derive(Drop)]
+#[derive(Clone, Copy)]
 pub struct Variable(pub u64);
 
 impl Variable {
@@ -41,7 +42,7 @@ impl Variable {
 }
 
 // The same for a witness, which no copy column holds.
-#[derive(Drop)]
+#[derive(Clone, Copy)]
 pub struct Witness(pub u64);
 
 impl Witness {

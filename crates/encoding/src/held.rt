@@ -15,14 +15,14 @@ use writer::hand::hand;
 
 // Whether the words are as many as a plan's, with some lookup mode's words among them, and then the outline of the
 // plan, else zeros.
-#[derive(Drop)]
+#[derive(Clone, Copy)]
 pub struct Outlined {
     pub fits: bool,
     pub outline: Outline,
 }
 
 // The same of a state's words, with its counts.
-#[derive(Drop)]
+#[derive(Clone, Copy)]
 pub struct Held {
     pub fits: bool,
     pub outline: Outline,

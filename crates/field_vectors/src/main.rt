@@ -1,5 +1,6 @@
 // Replays recorded sums, differences, products, powers and residue tests (standard input: the words
 // of field.words) and writes how many were compared, and how many differed.
+#![tactic(auto)]
 use libc::STDOUT_FILENO;
 use replay::Replay;
 
@@ -49,7 +50,7 @@ fn main() {
     let mut buffer = [0u8; 131072];
     let length = io::read_full(0, &mut buffer);
     let bytes = &buffer[..length];
-    let count = bytes::words::word_at(bytes, 2);
+    let count = octets::words::word_at(bytes, 2);
     let s = replay_records(bytes, Replay::new().step().step().step(), count);
     line(b"records ", count);
     line(b"words ", s.at);

@@ -1,4 +1,5 @@
 // 01, 'Labels': the label of a cell is its column's representative times a power of the domain generator.
+#![tactic(auto)]
 ghost use Rattle.std.specs.Prelude.{◌≡◌, ℕ, ◌+◌, ◌*◌, ◌≤◌, ◌<◌, length};
 ghost use Rattle.base.specs.Fills.{Filled};
 ghost use Rattle.field.specs.Field.{p, fpow, is_non_residue};
@@ -67,7 +68,7 @@ fn is_absent(x: u64, words: &[u64]) -> bool
 
 // The columns that have a representative, column 0 among them: the representatives, and beside
 // each its N-th power. The words past them are 0. Also the number of N-th powers taken so far.
-#[derive(Drop)]
+#[derive(Clone, Copy)]
 struct NonResidues {
     kept: u64,
     values: ColumnWords,
@@ -132,7 +133,7 @@ fn make_non_residues(n: u64, c: u64) -> NonResidues
 // The representatives of columns 0 to C - 1, their N-th powers, and zeros past both; how many N-th
 // powers were taken, one for each non-residue tried. Number 1 or 9 is a refusal, and all else is
 // then 0.
-#[derive(Drop)]
+#[derive(Clone, Copy)]
 pub struct RepresentativesAnswer {
     pub number: u64,
     pub values: ColumnWords,
@@ -177,7 +178,7 @@ pub fn representatives(n: u64, c: u64) -> RepresentativesAnswer
 }
 
 // A label; number 1 or 9 is a refusal, and the value is then 0.
-#[derive(Drop)]
+#[derive(Clone, Copy)]
 pub struct LabelAnswer {
     pub number: u64,
     pub value: u64,

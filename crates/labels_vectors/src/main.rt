@@ -1,5 +1,6 @@
 // Replays recorded representatives and labels (standard input: the words of labels.words) and
 // writes how many records and words were compared, and how many differed.
+#![tactic(auto)]
 use labels::ColumnWords;
 use libc::STDOUT_FILENO;
 use replay::Replay;
@@ -125,12 +126,12 @@ fn main() {
     let mut buffer = io::large_buffer();
     let length = io::read_full(0, &mut buffer);
     let bytes = &buffer[..length];
-    let accepted = bytes::words::word_at(bytes, 2);
-    let refused = bytes::words::word_at(bytes, 3);
+    let accepted = octets::words::word_at(bytes, 2);
+    let refused = octets::words::word_at(bytes, 3);
     let records = Replay::new().step().step().step().step();
     let taken = replay_accepted_records(bytes, records, accepted);
     let all = replay_refused_records(bytes, taken, refused);
-    let version = all.note(bytes::words::word_at(bytes, 0) == 2);
+    let version = all.note(octets::words::word_at(bytes, 0) == 2);
     let s = version
         .note(length / 8 == all.at as usize)
         .note(length % 8 == 0);

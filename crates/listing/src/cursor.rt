@@ -36,7 +36,7 @@ fn part_from(words: &[u64], at: usize, n: usize) -> &[u64]
 }
 
 // The lent words and a place in them. The fields are open to all, so no function asks where it stands.
-#[derive(Drop)]
+#[derive(Clone, Copy)]
 pub struct Cursor<'a> {
     pub words: &'a [u64],
     pub at: usize,

@@ -9,13 +9,13 @@ use parameters::parameters::PARAMETER_WORDS;
 use selector::GATE_WORDS;
 
 // A section's words: where they begin in the listing, after their count, and how many they are.
-#[derive(Drop)]
+#[derive(Clone, Copy)]
 pub struct Part {
     pub start: usize,
     pub len: usize,
 }
 
-#[derive(Drop)]
+#[derive(Clone, Copy)]
 pub struct Sections {
     pub parameters: Part,
     pub gates: Part,
@@ -25,14 +25,14 @@ pub struct Sections {
     pub tables: Part,
 }
 
-#[derive(Drop)]
+#[derive(Clone, Copy)]
 pub enum Listing {
     Whole(Sections),
     Refused(u64),
 }
 
 // One section, if no word of it is missing.
-#[derive(Drop)]
+#[derive(Clone, Copy)]
 enum Section {
     Found(Part),
     Missing,

@@ -1,6 +1,7 @@
 // Replays recorded listings (standard input: the words of listings.words): each input goes through the
 // program without its input and output, and what that prints is held to the recorded bytes. Writes how
 // many inputs and comparisons there were, and how many differed.
+#![tactic(auto)]
 ghost use Rattle.std.specs.Prelude.{◌≡◌, length};
 
 use libc::STDOUT_FILENO;
@@ -112,9 +113,9 @@ fn main() {
     let mut buffer = space();
     let length = io::read_full(0, &mut buffer);
     let bytes = &buffer[..length];
-    let count = bytes::words::word_at(bytes, 2);
+    let count = octets::words::word_at(bytes, 2);
     let all = replay_listings(bytes, Replay::new().step().step().step(), count);
-    let version = all.note(bytes::words::word_at(bytes, 0) == 1);
+    let version = all.note(octets::words::word_at(bytes, 0) == 1);
     let s = version
         .note(length / 8 == all.at as usize)
         .note(length % 8 == 0);

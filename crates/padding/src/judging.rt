@@ -20,7 +20,7 @@ use selector::GATE_WORDS;
 use tree::planning::plan;
 
 // 0, or the number of a refusal; where it is 0 also the length and the gate of the missing rows.
-#[derive(Drop)]
+#[derive(Clone, Copy)]
 pub(crate) struct Judged {
     pub number: u64,
     pub length: u64,

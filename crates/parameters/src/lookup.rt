@@ -2,7 +2,7 @@
 ghost use Rattle.std.specs.Prelude.{◌≡◌};
 ghost use Rattle.parameters.specs.Lookup.{width_of, share_of, mode_of};
 
-#[derive(Drop)]
+#[derive(Clone, Copy)]
 pub enum LookupParameters {
     NoLookup,
     TableIdAsVariable { width: u64, share_table_id: bool },

@@ -17,7 +17,7 @@ const MOST_WIDTH: u64 = 16;
 pub const PARAMETER_WORDS: usize = 8;
 
 // N, C, A, S, V, mode, W and the share flag.
-#[derive(Drop)]
+#[derive(Clone, Copy)]
 pub struct Parameters {
     pub trace: u64,
     pub copy: u64,

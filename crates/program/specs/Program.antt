@@ -3,7 +3,7 @@
 -- Main definitions: `printed`, `program_text`, `WholeIn`, `ReadOf`.
 use Rattle.std.specs.Prelude.{◌≡◌, List, ◌++◌, ℕ, ◌%◌, eqb, leb, length, take, drop, replicate}
 use Rattle.base.specs.Pick.{pick}
-use Rattle.bytes.specs.Words.{words_of}
+use Rattle.octets.specs.Words.{words_of}
 use Rattle.pieces.specs.Setting.{Store}
 use Rattle.columns.specs.Intake.{store_of}
 use Rattle.report.specs.Report.{refused_line, report_of}

@@ -7,7 +7,7 @@ use Rattle.std.proofs.Common.{ap, ◌∙◌, arith, length-take, take_all, le-le
 use Rattle.std.proofs.Math.Decide.{dec_lt}
 use Rattle.std.proofs.lemmas.Bool.{lt-leb}
 use Rattle.base.specs.Pick.{pick_yes, pick_no}
-use Rattle.bytes.specs.Words.{words_of}
+use Rattle.octets.specs.Words.{words_of}
 use Rattle.tree.specs.declared.plan.Plan.{Plan}
 use Rattle.pieces.specs.Setting.{Store}
 use Rattle.columns.specs.Intake.{store_of}

@@ -3,7 +3,7 @@
 -- Main definitions: `started`, `stepped`, `noted`, `compared`.
 use Rattle.std.specs.Prelude.{Bool, List, ℕ, ◌+◌, ltb, eqb}
 use Rattle.base.specs.Pick.{pick}
-use Rattle.bytes.specs.Words.{word_at}
+use Rattle.octets.specs.Words.{word_at}
 use Rattle.replay.specs.declared.Replay.{Replay}
 
 -- one more, up to a limit

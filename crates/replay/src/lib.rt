@@ -1,10 +1,11 @@
 // What programs that replay recorded answers share: words read one after the other, and a count of
 // the comparisons made and of those that failed.
+#![tactic(auto)]
 ghost use Rattle.std.specs.Prelude.{◌≡◌};
-ghost use Rattle.bytes.specs.Words.{word_at};
+ghost use Rattle.octets.specs.Words.{word_at};
 ghost use Rattle.replay.specs.Replay.{started, stepped, compared, noted};
 
-use bytes::words::word_at;
+use octets::words::word_at;
 
 // No recording and no run comes near it: a count stays there.
 const LIMIT: u64 = 1000000000;
@@ -19,7 +20,7 @@ fn up(x: u64) -> u64
 }
 
 // A place among the words, and what has been compared.
-#[derive(Drop)]
+#[derive(Clone, Copy)]
 pub struct Replay {
     pub at: u64,
     pub compared: u64,

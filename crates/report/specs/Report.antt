@@ -4,7 +4,7 @@
 -- Main definitions: `selector_field`, `report_lines`, `refused_line`, `report_of`.
 use Rattle.std.specs.Prelude.{Bool, List, [], ◌∷◌, ◌++◌, ℕ, zero, suc, ◌+◌, ◌*◌, eqb, leb, ltb, length, take, drop}
 use Rattle.base.specs.Pick.{pick, both}
-use Rattle.bytes.specs.Text.{field, fields}
+use Rattle.octets.specs.Text.{field, fields}
 use Rattle.pieces.specs.Setting.{Setting, constant_room, copy_room, table_room}
 use Rattle.selector.specs.Paths.{Selector, a_path, no_selector, unknown_gate}
 use Rattle.tree.specs.Plan.{plan_fault, plan_selector, table_id_answer}

@@ -11,8 +11,8 @@ use Rattle.selector.specs.Paths.{Selector}
 use Rattle.tree.specs.Plan.{plan_fault}
 use Rattle.tree.specs.declared.plan.Plan.{Plan}
 use Rattle.columns.specs.Intake.{setting_of}
-use Rattle.bytes.specs.Text.{Sink, put}
-use Rattle.bytes.specs.TextLaws.{put-append, then}
+use Rattle.octets.specs.Text.{Sink, put}
+use Rattle.octets.specs.TextLaws.{put-append, then}
 use Rattle.report.specs.Report.{digit, digits_of, steps_field, column, path_line, path_lines, column_line, column_lines, table_columns, columns_there, refused_line, report_lines, report_of}
 
 pub digits_turn : (s t : Sink) (path : List ℕ) (i : ℕ) → i < length path → t ≡ put s (digit (get_or path i 0)) → put s (digits_of (drop i path)) ≡ put t (digits_of (drop (i + 1) path))

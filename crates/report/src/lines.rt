@@ -1,13 +1,13 @@
 // The lines of a report. Each function takes the place in a lent buffer where its text goes and
 // answers the place after it.
 ghost use Rattle.std.specs.Prelude.{◌≡◌, List, ◌++◌, ℕ, ◌*◌, ◌<◌, ◌≤◌, length};
-ghost use Rattle.bytes.specs.Text.{sink, put, field, fields};
+ghost use Rattle.octets.specs.Text.{sink, put, field, fields};
 ghost use Rattle.base.specs.Digits.{Spelled};
 ghost use Rattle.tree.specs.Plan.{plan_fault, plan_selector};
 ghost use Rattle.tree.specs.Selection.{selector_of};
 ghost use Rattle.report.specs.Report.{newline, plan_line, digit, digits_of, steps_field, selector_field, path_line, path_lines, column_lines, ids_line};
 
-use bytes::text::{put_bytes, put_field, put_fields};
+use octets::text::{put_bytes, put_field, put_fields};
 use tree::plan::Plan;
 use tree::selection::Selection;
 

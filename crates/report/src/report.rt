@@ -1,13 +1,13 @@
 // The whole report, and the line of a refusal, into a lent buffer: "A refusal prints `refused` and the
 // number alone."
 ghost use Rattle.std.specs.Prelude.{◌≡◌, true};
-ghost use Rattle.bytes.specs.Text.{sink, put};
+ghost use Rattle.octets.specs.Text.{sink, put};
 ghost use Rattle.tree.specs.Plan.{plan_fault};
 ghost use Rattle.columns.specs.Intake.{setting_of};
 ghost use Rattle.report.specs.Report.{refused_line, report_lines, report_of, columns_there};
 
 use crate::lines::{put_columns, put_ids, put_paths, put_plan};
-use bytes::text::{put_bytes, put_field};
+use octets::text::{put_bytes, put_field};
 use tree::plan::Plan;
 
 // Answers how many bytes of the buffer it took.

@@ -1,4 +1,5 @@
 // The mathematics of 01, 'Gates and tree', stands in specs/. The crates above it share its sizes.
+#![tactic(auto)]
 
 // "Gates: 1..128.", in a list.
 pub const MOST_GATES: usize = 128;

@@ -1,11 +1,12 @@
 // The program `setup`: a listing on standard input, the plan and the columns on standard output. What
 // is printed for which bytes is `program`'s contract, and so are the rooms for both; here is only what
 // reads and writes them. A line on standard error stands for the exit status that a program cannot set.
+#![tactic(auto)]
 use libc::{STDERR_FILENO, STDIN_FILENO, STDOUT_FILENO};
 use program::program::{INPUT_ROOM, Input, OUTPUT_ROOM, Output, run_bytes};
 
 // What reading came to: so many bytes at the room's start, or a read that failed.
-#[derive(Drop)]
+#[derive(Clone, Copy)]
 enum Reading {
     Bytes(usize),
     Failed,

@@ -17,7 +17,7 @@ use tree::plan::Plan;
 use tree::planning::plan;
 
 // 0 or a refusal number, and the plan; after a refusal a plan of zeros.
-#[derive(Drop)]
+#[derive(Clone, Copy)]
 pub struct Staged {
     pub number: u64,
     pub plan: Plan,

@@ -14,7 +14,7 @@ use selector::{GATE_WORDS, MOST_GATES, Marks};
 
 // A refusal number, or 0, and how many gates are listed; of each the bits and the steps of its path, zeros without one, 1 where its rows are turned away (23), and its own number of
 // constants. All of it is 0 for a made-up plan, and so are the words of gates that are not listed.
-#[derive(Drop)]
+#[derive(Clone, Copy)]
 pub struct GateRows {
     pub number: u64,
     pub many: u64,

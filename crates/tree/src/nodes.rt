@@ -25,7 +25,7 @@ pub(crate) fn put_node(nodes: &mut Nodes, at: usize, left: u64, right: u64, gate
 }
 
 // What is laid out so far: the next node, the greatest degree at depth and the greatest constants plus depth.
-#[derive(Drop)]
+#[derive(Clone, Copy)]
 pub struct Stats {
     pub next: usize,
     pub degree: u64,
@@ -33,7 +33,7 @@ pub struct Stats {
 }
 
 // A tree's node words, and its D, K and F; all zeros where there is no tree.
-#[derive(Drop)]
+#[derive(Clone, Copy)]
 pub struct Shape {
     pub nodes: Nodes,
     pub count: u64,

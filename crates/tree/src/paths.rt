@@ -10,7 +10,7 @@ ghost use Rattle.tree.specs.Placements.{spelled, path_words, placed};
 use selector::{MOST_GATES, Marks, NODE_WORDS};
 
 // A path's bits, the step from the root least, and its length; zeros where the gate was not found.
-#[derive(Drop)]
+#[derive(Clone, Copy)]
 pub struct Placement {
     pub found: bool,
     pub bits: u64,

@@ -18,7 +18,7 @@ use parameters::parameters::Parameters;
 use selector::{GATE_SLOTS, GATE_WORDS, GateSlots, MOST_GATES, MOST_LEVELS, NODE_SLOTS, Nodes};
 
 // Parameters, lookup mode, gates, and the tree in preorder, three words a node; D, K and F. Unused words are 0 in a plan that planning made.
-#[derive(Drop)]
+#[derive(Clone, Copy)]
 pub struct Plan {
     pub trace: u64,
     pub copy: u64,
@@ -36,7 +36,7 @@ pub struct Plan {
 }
 
 // What a plan says of its tree: D, K and F.
-#[derive(Drop)]
+#[derive(Clone, Copy)]
 pub struct Told {
     pub degree: u64,
     pub constants: u64,
@@ -44,7 +44,7 @@ pub struct Told {
 }
 
 // A plan without its words of gates and nodes, which are lent beside it.
-#[derive(Drop)]
+#[derive(Clone, Copy)]
 pub struct Outline {
     pub trace: u64,
     pub copy: u64,
@@ -58,14 +58,14 @@ pub struct Outline {
 }
 
 // A refusal number, or 0, and what is answered of a gate; a path of zeros for a made-up plan.
-#[derive(Drop)]
+#[derive(Clone, Copy)]
 pub struct PathAnswer {
     pub number: u64,
     pub selection: Selection,
 }
 
 // A refusal number, or 0, and how many table-id columns there are, none or one, with its index.
-#[derive(Drop)]
+#[derive(Clone, Copy)]
 pub struct TableId {
     pub number: u64,
     pub count: u64,

@@ -11,7 +11,7 @@ use parameters::parameters::Parameters;
 use selector::{GATE_SLOTS, GATE_WORDS, GateSlots};
 
 // A refusal number, or 0, and the plan; after a refusal a plan of zeros.
-#[derive(Drop)]
+#[derive(Clone, Copy)]
 pub struct Planned {
     pub number: u64,
     pub plan: Plan,

@@ -21,7 +21,7 @@ const TARGETS: u64 = 4;
 const EXTRA_LEVELS: u64 = 1;
 
 // A gate on offer, for a target and a bound; the lookup gate has `extra` constants.
-#[derive(Drop)]
+#[derive(Clone, Copy)]
 pub struct Offer {
     pub gate: u64,
     pub target: u64,

@@ -3,7 +3,7 @@ ghost use Rattle.std.specs.Prelude.{◌≡◌};
 ghost use Rattle.tree.specs.Selection.{selection_number, selection_bits, selection_length, selection_bare};
 
 // Bit i of a path, from the least, is step i from the root.
-#[derive(Drop)]
+#[derive(Clone, Copy)]
 pub enum Selection {
     Path { bits: u64, length: u64 },
     NoSelector,

@@ -1,5 +1,6 @@
 // Replays recorded plans, paths, table-id indexes, refusals and made-up plans (standard input: the words of
 // tree.words) and writes how many records and words were compared, and how many differed.
+#![tactic(auto)]
 ghost use Rattle.std.specs.Prelude.{◌≡◌, length};
 
 use libc::STDOUT_FILENO;
@@ -214,11 +215,11 @@ fn main() {
     let mut buffer = space();
     let length = io::read_full(0, &mut buffer);
     let bytes = &buffer[..length];
-    let plans = bytes::words::word_at(bytes, 2);
-    let made_up = bytes::words::word_at(bytes, 3);
+    let plans = octets::words::word_at(bytes, 2);
+    let made_up = octets::words::word_at(bytes, 3);
     let records = Replay::new().step().step().step().step();
     let all = replay_made_up_plans(bytes, replay_plans(bytes, records, plans), made_up);
-    let version = all.note(bytes::words::word_at(bytes, 0) == 2);
+    let version = all.note(octets::words::word_at(bytes, 0) == 2);
     let s = version
         .note(length / 8 == all.at as usize)
         .note(length % 8 == 0);

@@ -6,7 +6,7 @@ use crate::put::put_words;
 
 // What a call that writes a listing answers: 0 or a refusal number, and how many words were written,
 // none after a refusal.
-#[derive(Drop)]
+#[derive(Clone, Copy)]
 pub struct Wrote {
     pub number: u64,
     pub words: u64,

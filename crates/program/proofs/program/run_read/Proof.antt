@@ -6,9 +6,9 @@ use lib.Seq.{length-take-le}
 use mathlib.Core.Path.{◌≡◌, sym, ap, ◌∙◌}
 use native.Mathlib.Omega.{arith}
 use Prim.Native.Nat.{ℕ, ◌/◌, ◌%◌, ◌≤◌}
-use Rattle.bytes.specs.Text.{sink, put}
-use Rattle.bytes.specs.Words.{words_of, words_read}
-use Rattle.bytes.specs.WordLaws.{words_whole}
+use Rattle.octets.specs.Text.{sink, put}
+use Rattle.octets.specs.Words.{words_of, words_read}
+use Rattle.octets.specs.WordLaws.{words_whole}
 use Rattle.program.specs.Program.{printed}
 use Rattle.program.specs.ProgramLaws.{text-long, text-odd, text-words}
 use borrow.Author.Rules.{rules}
@@ -16,7 +16,7 @@ use Rattle.program.proofs.program.run_read.Statement.{statement}
 use Rattle.program.proofs.program.run_read.Tie as tie
 use Rattle.program.proofs.program.run_read.Reads as reads
 use Rattle.program.proofs.program.run_read.Lts as lts
-use Rattle.bytes.proofs.words.read_words.Reads as read-words-reads
+use Rattle.octets.proofs.words.read_words.Reads as read-words-reads
 use Rattle.program.proofs.program.run_words.Reads as run-words-reads
 use Rattle.report.proofs.report.put_refused.Reads as put-refused-reads
 

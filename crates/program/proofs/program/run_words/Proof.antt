@@ -2,7 +2,7 @@
 -- Assumes nothing.
 use mathlib.Core.Path.{◌≡◌, sym, ap, ◌∙◌}
 use Prim.Native.Nat.{ℕ}
-use Rattle.bytes.specs.Text.{sink, put}
+use Rattle.octets.specs.Text.{sink, put}
 use Rattle.report.specs.Report.{refused_line}
 use Rattle.stage.specs.Listed.{listed_answer}
 use Rattle.stage.specs.declared.circuit.Staged.{Staged}

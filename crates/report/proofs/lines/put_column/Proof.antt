@@ -3,17 +3,17 @@
 use mathlib.Core.Path.{◌≡◌, refl, sym, ap, ◌∙◌}
 use mathlib.Core.List.{List, [], ◌∷◌, ◌++◌}
 use native.Mathlib.Omega.{arith}
-use Rattle.bytes.specs.Text.{Sink, sink, put, field, fields}
-use Rattle.bytes.specs.TextLaws.{then}
+use Rattle.octets.specs.Text.{Sink, sink, put, field, fields}
+use Rattle.octets.specs.TextLaws.{then}
 use Rattle.report.specs.Report.{newline}
 use borrow.Author.Rules.{rules}
 use Rattle.report.proofs.lines.put_column.Statement.{statement}
 use Rattle.report.proofs.lines.put_column.Tie as tie
 use Rattle.report.proofs.lines.put_column.Reads as reads
 use Rattle.report.proofs.lines.put_column.Lts as lts
-use Rattle.bytes.proofs.text.put_bytes.Reads as put-bytes-reads
-use Rattle.bytes.proofs.text.put_field.Reads as put-field-reads
-use Rattle.bytes.proofs.text.put_fields.Reads as put-fields-reads
+use Rattle.octets.proofs.text.put_bytes.Reads as put-bytes-reads
+use Rattle.octets.proofs.text.put_field.Reads as put-field-reads
+use Rattle.octets.proofs.text.put_fields.Reads as put-fields-reads
 
 put-bytes-requires : tie.Need-put-bytes-requires
 put-bytes-requires c κs = search rules

@@ -3,8 +3,8 @@
 use mathlib.Core.Path.{◌≡◌, refl, sym, ap, ◌∙◌}
 use mathlib.Core.List.{List, [], ◌∷◌, ◌++◌}
 use native.Mathlib.Omega.{arith}
-use Rattle.bytes.specs.Text.{Sink, sink, put, field, fields}
-use Rattle.bytes.specs.TextLaws.{then}
+use Rattle.octets.specs.Text.{Sink, sink, put, field, fields}
+use Rattle.octets.specs.TextLaws.{then}
 use borrow.Author.Tests.{eq-eqb, ne_eqb}
 use Rattle.base.specs.Pick.{pick_yes, pick_no}
 use borrow.Author.Rules.{rules}
@@ -12,7 +12,7 @@ use Rattle.report.proofs.lines.put_digit.Statement.{statement}
 use Rattle.report.proofs.lines.put_digit.Tie as tie
 use Rattle.report.proofs.lines.put_digit.Reads as reads
 use Rattle.report.proofs.lines.put_digit.Lts as lts
-use Rattle.bytes.proofs.text.put_bytes.Reads as put-bytes-reads
+use Rattle.octets.proofs.text.put_bytes.Reads as put-bytes-reads
 
 slice-aggregate-put-bytes : tie.Need-slice-aggregate-put-bytes
 slice-aggregate-put-bytes c = search rules

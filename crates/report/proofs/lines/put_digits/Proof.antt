@@ -4,8 +4,8 @@ use borrow.Author.Rules.{rules}
 use mathlib.Core.Path.{◌≡◌, refl, sym, ap, ◌∙◌}
 use mathlib.Core.List.{List, [], ◌∷◌, ◌++◌}
 use native.Mathlib.Omega.{arith}
-use Rattle.bytes.specs.Text.{Sink, sink, put, field, fields}
-use Rattle.bytes.specs.TextLaws.{then}
+use Rattle.octets.specs.Text.{Sink, sink, put, field, fields}
+use Rattle.octets.specs.TextLaws.{then}
 use Prim.Native.Nat.{ℕ, suc, ◌+◌, ◌-◌, ◌*◌, ◌/◌, ◌%◌, ◌<◌, ◌≤◌}
 use lib.ListN.{length, get_or, take, drop}
 use Rattle.base.specs.Digits.{digits, Spelled, digits-left}

@@ -7,8 +7,8 @@ use Rattle.tree.specs.declared.plan.TableId.{TableId}
 use mathlib.Core.Path.{◌≡◌, refl, sym, ap, ◌∙◌}
 use mathlib.Core.List.{List, [], ◌∷◌, ◌++◌}
 use native.Mathlib.Omega.{arith}
-use Rattle.bytes.specs.Text.{Sink, sink, put, field, fields}
-use Rattle.bytes.specs.TextLaws.{then}
+use Rattle.octets.specs.Text.{Sink, sink, put, field, fields}
+use Rattle.octets.specs.TextLaws.{then}
 use borrow.Author.Tests.{lt-ltb, le-ltb}
 use Rattle.base.specs.Pick.{pick_yes, pick_no}
 use Rattle.tree.specs.Plan.{table_id_answer}
@@ -18,8 +18,8 @@ use Rattle.report.proofs.lines.put_ids.Statement.{statement}
 use Rattle.report.proofs.lines.put_ids.Tie as tie
 use Rattle.report.proofs.lines.put_ids.Reads as reads
 use Rattle.report.proofs.lines.put_ids.Lts as lts
-use Rattle.bytes.proofs.text.put_bytes.Reads as put-bytes-reads
-use Rattle.bytes.proofs.text.put_field.Reads as put-field-reads
+use Rattle.octets.proofs.text.put_bytes.Reads as put-bytes-reads
+use Rattle.octets.proofs.text.put_field.Reads as put-field-reads
 use Rattle.tree.proofs.plan.Plan.table_id.Reads as table-id-reads
 
 table-id-requires : tie.Need-table-id-requires

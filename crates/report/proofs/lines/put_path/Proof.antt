@@ -2,8 +2,8 @@
 -- Assumes nothing.
 use mathlib.Core.Path.{◌∙◌, ◌≡◌, ap, refl}
 use mathlib.Core.List.{◌++◌}
-use Rattle.bytes.specs.Text.{field, sink}
-use Rattle.bytes.specs.TextLaws.{then}
+use Rattle.octets.specs.Text.{field, sink}
+use Rattle.octets.specs.TextLaws.{then}
 use Rattle.tree.specs.Plan.{plan_selector}
 use Rattle.tree.specs.Selection.{selector_of}
 use Rattle.tree.specs.SoundLaws.{path_answers}

@@ -3,16 +3,16 @@
 use mathlib.Core.Path.{◌≡◌, refl, sym, ap, ◌∙◌}
 use mathlib.Core.List.{List, [], ◌∷◌, ◌++◌}
 use native.Mathlib.Omega.{arith}
-use Rattle.bytes.specs.Text.{Sink, sink, put, field, fields}
-use Rattle.bytes.specs.TextLaws.{then}
+use Rattle.octets.specs.Text.{Sink, sink, put, field, fields}
+use Rattle.octets.specs.TextLaws.{then}
 use Rattle.report.specs.Report.{newline, plan_name}
 use borrow.Author.Rules.{rules}
 use Rattle.report.proofs.lines.put_plan.Statement.{statement}
 use Rattle.report.proofs.lines.put_plan.Tie as tie
 use Rattle.report.proofs.lines.put_plan.Reads as reads
 use Rattle.report.proofs.lines.put_plan.Lts as lts
-use Rattle.bytes.proofs.text.put_bytes.Reads as put-bytes-reads
-use Rattle.bytes.proofs.text.put_fields.Reads as put-fields-reads
+use Rattle.octets.proofs.text.put_bytes.Reads as put-bytes-reads
+use Rattle.octets.proofs.text.put_fields.Reads as put-fields-reads
 
 slice-aggregate-put-bytes : tie.Need-slice-aggregate-put-bytes
 slice-aggregate-put-bytes c = search rules

@@ -3,7 +3,7 @@
 use borrow.Author.Rules.{rules}
 use mathlib.Core.Path.{◌∙◌, ap, refl, sym}
 use Rattle.base.specs.Digits.{Spelled, digits, digits-many}
-use Rattle.bytes.specs.Text.{put, sink}
+use Rattle.octets.specs.Text.{put, sink}
 use Rattle.tree.specs.Selection.{selector_of}
 use Rattle.tree.specs.declared.selection.Selection.{Selection}
 use Rattle.report.specs.Report.{selector_field}

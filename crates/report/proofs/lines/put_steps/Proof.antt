@@ -3,8 +3,8 @@
 use mathlib.Core.Path.{◌≡◌, refl, sym, ap, ◌∙◌}
 use mathlib.Core.List.{List, [], ◌∷◌, ◌++◌}
 use native.Mathlib.Omega.{arith}
-use Rattle.bytes.specs.Text.{Sink, sink, put, field, fields}
-use Rattle.bytes.specs.TextLaws.{then}
+use Rattle.octets.specs.Text.{Sink, sink, put, field, fields}
+use Rattle.octets.specs.TextLaws.{then}
 use Prim.Native.Nat.{ℕ, suc, ◌+◌, ◌-◌, ◌*◌, ◌/◌, ◌%◌, ◌<◌, ◌≤◌}
 use lib.ListN.{length, get_or, take, drop}
 use Rattle.report.specs.ReportLaws.{steps-none, steps-some}
@@ -13,7 +13,7 @@ use Rattle.report.proofs.lines.put_steps.Statement.{statement}
 use Rattle.report.proofs.lines.put_steps.Tie as tie
 use Rattle.report.proofs.lines.put_steps.Reads as reads
 use Rattle.report.proofs.lines.put_steps.Lts as lts
-use Rattle.bytes.proofs.text.put_bytes.Reads as put-bytes-reads
+use Rattle.octets.proofs.text.put_bytes.Reads as put-bytes-reads
 use Rattle.report.proofs.lines.put_digits.Reads as put-digits-reads
 
 returns : tie.Need-returns

@@ -3,8 +3,8 @@
 use mathlib.Core.Path.{◌≡◌, ap, ◌∙◌}
 use mathlib.Core.List.{◌++◌}
 use native.Mathlib.Omega.{arith}
-use Rattle.bytes.specs.Text.{sink, put}
-use Rattle.bytes.specs.TextLaws.{then}
+use Rattle.octets.specs.Text.{sink, put}
+use Rattle.octets.specs.TextLaws.{then}
 use Prim.Native.Nat.{ℕ, ◌+◌, ◌≤◌}
 use lib.ListN.{length}
 use Rattle.pieces.specs.Setting.{constant_room, copy_room, table_room}

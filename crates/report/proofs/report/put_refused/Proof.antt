@@ -3,16 +3,16 @@
 use mathlib.Core.Path.{◌≡◌, refl, sym, ap, ◌∙◌}
 use mathlib.Core.List.{List, [], ◌∷◌, ◌++◌}
 use native.Mathlib.Omega.{arith}
-use Rattle.bytes.specs.Text.{Sink, sink, put, field, fields}
-use Rattle.bytes.specs.TextLaws.{then}
+use Rattle.octets.specs.Text.{Sink, sink, put, field, fields}
+use Rattle.octets.specs.TextLaws.{then}
 use Rattle.report.specs.Report.{newline, refused_name}
 use borrow.Author.Rules.{rules}
 use Rattle.report.proofs.report.put_refused.Statement.{statement}
 use Rattle.report.proofs.report.put_refused.Tie as tie
 use Rattle.report.proofs.report.put_refused.Reads as reads
 use Rattle.report.proofs.report.put_refused.Lts as lts
-use Rattle.bytes.proofs.text.put_bytes.Reads as put-bytes-reads
-use Rattle.bytes.proofs.text.put_field.Reads as put-field-reads
+use Rattle.octets.proofs.text.put_bytes.Reads as put-bytes-reads
+use Rattle.octets.proofs.text.put_field.Reads as put-field-reads
 
 slice-aggregate-put-bytes : tie.Need-slice-aggregate-put-bytes
 slice-aggregate-put-bytes c = search rules

@@ -1,7 +1,7 @@
 -- `report::report::put_report` meets its contract: the code makes the definition's tests.
 -- Assumes nothing.
 use mathlib.Core.Path.{◌≡◌, sym, ap, ◌∙◌}
-use Rattle.bytes.specs.Text.{sink, put}
+use Rattle.octets.specs.Text.{sink, put}
 use Rattle.report.specs.ReportLaws.{report_19, report_10, report_whole}
 use borrow.Author.Rules.{rules}
 use Rattle.report.proofs.report.put_report.Statement.{statement}

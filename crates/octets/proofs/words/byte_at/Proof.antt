@@ -1,12 +1,12 @@
--- `bytes::words::byte_at` meets its contract: an element of a slice of bytes is below 256, and past the end `get_or` is 0.
+-- `octets::words::byte_at` meets its contract: an element of a slice of bytes is below 256, and past the end `get_or` is 0.
 -- Assumes nothing.
 use borrow.Author.Rules.{rules}
 use mathlib.Core.Path.{refl, sym}
 use native.Mathlib.Omega.{arith}
 use lib.ListN.{get_or-eq_default}
 use borrow.Author.Rules.{rules}
-use Rattle.bytes.proofs.words.byte_at.Statement.{statement}
-use Rattle.bytes.proofs.words.byte_at.Tie as tie
+use Rattle.octets.proofs.words.byte_at.Statement.{statement}
+use Rattle.octets.proofs.words.byte_at.Tie as tie
 
 shared-slice-read-result : tie.Need-shared-slice-read-result
 shared-slice-read-result c = search rules

@@ -1,3 +1,4 @@
 // Bytes that programs read and write: little-endian words, and text in a lent buffer.
+#![tactic(auto)]
 pub mod text;
 pub mod words;

@@ -1,16 +1,16 @@
--- `bytes::text::put_decimal` meets its contract: the digits that `io` makes are the fewest.
+-- `octets::text::put_decimal` meets its contract: the digits that `io` makes are the fewest.
 -- Assumes nothing.
 use mathlib.Core.Path.{◌≡◌, refl, sym, ap, ◌∙◌}
 use mathlib.Core.List.{List}
 use native.Mathlib.Omega.{arith}
-use Rattle.bytes.specs.Text.{sink, put}
-use Rattle.bytes.specs.TextLaws.{fewest_decimal}
+use Rattle.octets.specs.Text.{sink, put}
+use Rattle.octets.specs.TextLaws.{fewest_decimal}
 use borrow.Author.Rules.{rules}
-use Rattle.bytes.proofs.text.put_decimal.Statement.{statement}
-use Rattle.bytes.proofs.text.put_decimal.Tie as tie
-use Rattle.bytes.proofs.text.put_decimal.Reads as reads
-use Rattle.bytes.proofs.text.put_decimal.Lts as lts
-use Rattle.bytes.proofs.text.put_bytes.Reads as put-bytes-reads
+use Rattle.octets.proofs.text.put_decimal.Statement.{statement}
+use Rattle.octets.proofs.text.put_decimal.Tie as tie
+use Rattle.octets.proofs.text.put_decimal.Reads as reads
+use Rattle.octets.proofs.text.put_decimal.Lts as lts
+use Rattle.octets.proofs.text.put_bytes.Reads as put-bytes-reads
 use Rattle.io.proofs.decimal.Reads as decimal-reads
 
 -- src/text.rt:27:9

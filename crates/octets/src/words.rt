@@ -1,6 +1,6 @@
 // Words from little-endian bytes.
 ghost use Rattle.std.specs.Prelude.{◌≡◌, ℕ, ◌<◌, get_or};
-ghost use Rattle.bytes.specs.Words.{word_at, words_read, words_left};
+ghost use Rattle.octets.specs.Words.{word_at, words_read, words_left};
 
 // The byte at a place, 0 past the end.
 fn byte_at(bytes: &[u8], at: usize) -> u64

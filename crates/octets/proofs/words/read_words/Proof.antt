@@ -1,4 +1,4 @@
--- `bytes::words::read_words` meets its contract. The words passed are those of the bytes, the others as they were.
+-- `octets::words::read_words` meets its contract. The words passed are those of the bytes, the others as they were.
 -- Assumes nothing.
 use borrow.Author.Rules.{rules}
 use mathlib.Core.Path.{◌≡◌, refl, sym, ap, ◌∙◌}
@@ -6,13 +6,13 @@ use native.Mathlib.Omega.{arith}
 use Prim.Native.Nat.{ℕ, ◌+◌, ◌-◌, ◌*◌, ◌/◌, ◌<◌, ◌≤◌, min}
 use lib.ListN.{length, get_or, drop, set, length-set, drop_of_length-le}
 use Rattle.base.specs.Fills.{Filled, filled_none, filled_next}
-use Rattle.bytes.specs.Words.{word_at}
-use Rattle.bytes.specs.WordLaws.{words_filled}
-use Rattle.bytes.proofs.words.read_words.Statement.{statement}
-use Rattle.bytes.proofs.words.read_words.Tie as tie
-use Rattle.bytes.proofs.words.read_words.Reads as reads
-use Rattle.bytes.proofs.words.read_words.Lts as lts
-use Rattle.bytes.proofs.words.word_at.Reads as word-at-reads
+use Rattle.octets.specs.Words.{word_at}
+use Rattle.octets.specs.WordLaws.{words_filled}
+use Rattle.octets.proofs.words.read_words.Statement.{statement}
+use Rattle.octets.proofs.words.read_words.Tie as tie
+use Rattle.octets.proofs.words.read_words.Reads as reads
+use Rattle.octets.proofs.words.read_words.Lts as lts
+use Rattle.octets.proofs.words.word_at.Reads as word-at-reads
 
 abbrev invariant_loop : tie.invariant_loop
 invariant_loop bytes words₀ i₀ words i = (i ≤ length words₀) × (i ≤ length bytes / 8) × Filled (word_at bytes) 0 i words₀ words

@@ -5,7 +5,7 @@ use Rattle.std.specs.Prelude.{◌≡◌, refl, List, [], ◌∷◌, ℕ, ◌/◌
 use Rattle.std.proofs.Common.{ap, ◌∙◌, arith, take_at}
 use Rattle.base.specs.Tables.{table, table-length}
 use Rattle.base.specs.Fills.{Filled, filled_list}
-use Rattle.bytes.specs.Words.{word_at, words_of, words_read, words_left}
+use Rattle.octets.specs.Words.{word_at, words_of, words_read, words_left}
 
 pub words_filled : (bytes old new : List ℕ) (i : ℕ) → i ≡ words_read bytes old → Filled (word_at bytes) 0 i old new → new ≡ words_left bytes old
 unfolding words_left

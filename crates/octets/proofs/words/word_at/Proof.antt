@@ -1,11 +1,11 @@
--- `bytes::words::word_at` meets its contract: the bytes are those of the definition, and each is below 256.
+-- `octets::words::word_at` meets its contract: the bytes are those of the definition, and each is below 256.
 -- Assumes nothing.
 use borrow.Author.Rules.{rules}
 use borrow.Author.Tests.{le-leb, lt-leb}
 use native.Mathlib.Omega.{arith}
 use borrow.Author.Rules.{rules}
-use Rattle.bytes.proofs.words.word_at.Statement.{statement}
-use Rattle.bytes.proofs.words.word_at.Tie as tie
+use Rattle.octets.proofs.words.word_at.Statement.{statement}
+use Rattle.octets.proofs.words.word_at.Tie as tie
 
 returns : tie.Need-returns
 returns c = simp (le-leb _ _ c.if1.true)

@@ -1,16 +1,16 @@
--- `bytes::text::put_bytes` meets its contract. What is left to put into the present buffer is what the whole text puts into the given one.
+-- `octets::text::put_bytes` meets its contract. What is left to put into the present buffer is what the whole text puts into the given one.
 -- Assumes nothing.
 use borrow.Author.Rules.{rules}
 use mathlib.Core.Path.{◌≡◌, refl, sym, ap, ◌∙◌}
 use native.Mathlib.Omega.{arith}
 use Prim.Native.Nat.{ℕ, ◌+◌, ◌-◌, ◌*◌, ◌/◌, ◌<◌, ◌≤◌, min}
 use lib.ListN.{length, get_or, drop, set, length-set}
-use Rattle.bytes.specs.Text.{Sink, sink, put}
-use Rattle.bytes.specs.TextLaws.{put_turn, put_full, put_done}
-use Rattle.bytes.proofs.text.put_bytes.Statement.{statement}
-use Rattle.bytes.proofs.text.put_bytes.Tie as tie
-use Rattle.bytes.proofs.text.put_bytes.Reads as reads
-use Rattle.bytes.proofs.text.put_bytes.Lts as lts
+use Rattle.octets.specs.Text.{Sink, sink, put}
+use Rattle.octets.specs.TextLaws.{put_turn, put_full, put_done}
+use Rattle.octets.proofs.text.put_bytes.Statement.{statement}
+use Rattle.octets.proofs.text.put_bytes.Tie as tie
+use Rattle.octets.proofs.text.put_bytes.Reads as reads
+use Rattle.octets.proofs.text.put_bytes.Lts as lts
 
 abbrev invariant_loop : tie.invariant_loop
 invariant_loop text at out₀ place₀ i₀ out place i = (length out ≡ length out₀) × (put (sink out₀ at) text ≡ put (sink out place) (drop i text))

@@ -9,7 +9,7 @@ use Rattle.std.proofs.lemmas.List.Edits.{sets, sets-eq}
 use Rattle.io.specs.Counts.{IsPrefixLen}
 use Rattle.io.specs.Digits.{last_digits, IsDigitCount}
 use Rattle.base.specs.Pick.{pick, pick_yes}
-use Rattle.bytes.specs.Text.{Sink, sink, put_byte, put, places, decimal, field, fields}
+use Rattle.octets.specs.Text.{Sink, sink, put_byte, put, places, decimal, field, fields}
 
 pub put-append : (s : Sink) (a b : List ℕ) → put s (a ++ b) ≡ put (put s a) b
 unfolding put

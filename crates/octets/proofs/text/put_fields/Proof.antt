@@ -1,17 +1,17 @@
--- `bytes::text::put_fields` meets its contract. What is left to put into the present buffer is what all fields put into the given one.
+-- `octets::text::put_fields` meets its contract. What is left to put into the present buffer is what all fields put into the given one.
 -- Assumes nothing.
 use borrow.Author.Rules.{rules}
 use mathlib.Core.Path.{◌≡◌, refl, sym, ap, ◌∙◌}
 use native.Mathlib.Omega.{arith}
 use Prim.Native.Nat.{ℕ, ◌+◌, ◌-◌, ◌*◌, ◌/◌, ◌<◌, ◌≤◌, min}
 use lib.ListN.{length, get_or, drop, set, length-set}
-use Rattle.bytes.specs.Text.{Sink, sink, put, fields}
-use Rattle.bytes.specs.TextLaws.{fields_turn, fields_done}
-use Rattle.bytes.proofs.text.put_fields.Statement.{statement}
-use Rattle.bytes.proofs.text.put_fields.Tie as tie
-use Rattle.bytes.proofs.text.put_fields.Reads as reads
-use Rattle.bytes.proofs.text.put_fields.Lts as lts
-use Rattle.bytes.proofs.text.put_field.Reads as put-field-reads
+use Rattle.octets.specs.Text.{Sink, sink, put, fields}
+use Rattle.octets.specs.TextLaws.{fields_turn, fields_done}
+use Rattle.octets.proofs.text.put_fields.Statement.{statement}
+use Rattle.octets.proofs.text.put_fields.Tie as tie
+use Rattle.octets.proofs.text.put_fields.Reads as reads
+use Rattle.octets.proofs.text.put_fields.Lts as lts
+use Rattle.octets.proofs.text.put_field.Reads as put-field-reads
 
 abbrev invariant_loop : tie.invariant_loop
 invariant_loop numbers at out₀ place₀ i₀ out place i = (length out ≡ length out₀) × (put (sink out₀ at) (fields numbers) ≡ put (sink out place) (fields (drop i numbers)))

@@ -1,7 +1,7 @@
 // Text in a lent buffer of bytes. Each function takes the place where its text goes and answers the
 // place after it; bytes past the buffer's end are dropped.
 ghost use Rattle.std.specs.Prelude.{◌≡◌};
-ghost use Rattle.bytes.specs.Text.{sink, put, decimal, field, fields};
+ghost use Rattle.octets.specs.Text.{sink, put, decimal, field, fields};
 
 pub fn put_bytes(text: &[u8], at: usize, out: &mut [u8]) -> usize
     ensures { sink out.new result ≡ put (sink out.old at) text.now }

@@ -1,16 +1,16 @@
--- `bytes::text::put_field` meets its contract: the space, then the digits.
+-- `octets::text::put_field` meets its contract: the space, then the digits.
 -- Assumes nothing.
 use mathlib.Core.Path.{◌≡◌, sym, ap, ◌∙◌}
 use mathlib.Core.List.{[], ◌∷◌}
-use Rattle.bytes.specs.Text.{Sink, sink, put, decimal}
-use Rattle.bytes.specs.TextLaws.{put-append}
+use Rattle.octets.specs.Text.{Sink, sink, put, decimal}
+use Rattle.octets.specs.TextLaws.{put-append}
 use borrow.Author.Rules.{rules}
-use Rattle.bytes.proofs.text.put_field.Statement.{statement}
-use Rattle.bytes.proofs.text.put_field.Tie as tie
-use Rattle.bytes.proofs.text.put_field.Reads as reads
-use Rattle.bytes.proofs.text.put_field.Lts as lts
-use Rattle.bytes.proofs.text.put_bytes.Reads as put-bytes-reads
-use Rattle.bytes.proofs.text.put_decimal.Reads as put-decimal-reads
+use Rattle.octets.proofs.text.put_field.Statement.{statement}
+use Rattle.octets.proofs.text.put_field.Tie as tie
+use Rattle.octets.proofs.text.put_field.Reads as reads
+use Rattle.octets.proofs.text.put_field.Lts as lts
+use Rattle.octets.proofs.text.put_bytes.Reads as put-bytes-reads
+use Rattle.octets.proofs.text.put_decimal.Reads as put-decimal-reads
 
 -- src/text.rt:35:27
 slice-aggregate-put-bytes : tie.Need-slice-aggregate-put-bytes
