@@ -1,0 +1,57 @@
+-- `intake::kinchoyu_open` meets its contract: a state that is too short first, where 19 still goes before 10; then the opening of the plan that stands in the words.
+use Rattle.std.proofs.Common.{◌∙◌, ◌≡◌, ap, sym, arith}
+use Rattle.columns.specs.Intake.{open_left, setting_of, store_of}
+use Rattle.pieces.specs.Opening.{open_number}
+use Rattle.pieces.specs.Setting.{Store}
+use Rattle.tree.specs.Plan.{plan_fault}
+use Rattle.tree.specs.PlanLaws.{zero_fault}
+use Rattle.tree.specs.declared.plan.Plan.{Plan}
+use Rattle.encoding.specs.Encoding.{plan_of}
+use Rattle.encoding.specs.Held.{Plans, plans, plans_none}
+use Rattle.capi.specs.IntakeLaws.{open_given, open_made-up, open_none, open_short}
+use Rattle.capi.proofs.intake.kinchoyu_open.Goals as goal
+
+-- the four lent buffers
+abbrev store : goal.Start → Store
+store c = store_of c.args.constants.now c.args.copies.now c.args.scratch.now c.args.tables.now
+
+-- what the words hold that hold a plan
+held : (c : goal.Then-held) → Plans c.before.before.before.before.before.before.before.before.args.plan.now c.before.outlined-at.result
+held c = plans c.args.plan.now c.outlined_at-held.result c.outlined_at-held.ensures c.if-held.true
+
+pub slice_bounds-gates-end : goal.slice_bounds-gates-end
+slice_bounds-gates-end c = omega (arith, (held c.before).long)
+
+pub slice_bounds-nodes-end : goal.slice_bounds-nodes-end
+slice_bounds-nodes-end c = omega (arith, (held c.before.before).long)
+
+pub returns-then-parts_fault-eq0 : goal.returns-then-parts_fault-eq0
+returns-then-parts_fault-eq0 c =
+    let a = c.args in
+    open_short a.plan.now a.state.now (store c.before.before.before.before.before.before.before.before.before.before.before.before.before.before) (ap plan_fault (sym (held c.before.before.before.before.before.before).parts) ∙ sym c.parts_fault.ensures ∙ c.if-parts_fault-eq0.true) c.if-state-lt-STATE_WORDS.true
+
+pub returns-then-state-lt-STATE_WORDS : goal.returns-then-state-lt-STATE_WORDS
+returns-then-state-lt-STATE_WORDS c =
+    let a = c.args in
+    open_made-up a.plan.now a.state.now (store c.before.before.before.before.before.before.before.before.before.before.before.before.before.before) (λ z. c.if-parts_fault-eq0.false (c.parts_fault.ensures ∙ ap plan_fault (held c.before.before.before.before.before.before).parts ∙ z)) c.if-state-lt-STATE_WORDS.true
+
+pub returns-then-held : goal.returns-then-held
+returns-then-held c =
+    let a = c.args in
+    let b = store c.before.before.before.before.before.before.before.before.before.before.before.before.before.before.before.before.before.before.before.before.before.before.before.before.before.before.before.before.before in
+    let p = (held c.before.before.before.before.before.before.before.before.before.before.before.before.before.before.before.before.before.before.before.before.before).parts in
+    let o = c.open_parts-number in
+    let g = c.give_opened.ensures in
+    let k = open_given a.plan.now a.state.now b c.if-state-lt-STATE_WORDS.false o.result _ _ (o.ensures.0 ∙ ap (λ (q : Plan). open_number (setting_of q) b) p) g.1 (o.ensures.1 ∙ ap (λ (q : Plan). open_left q b) p) in
+    (g.0 ∙ k.0, k.1)
+
+-- words that hold none have a fault
+none : (c : goal.Else-held) → plan_fault (plan_of c.before.before.before.before.before.before.before.before.args.plan.now) ≡ 19
+none c = ap plan_fault (sym (plans_none c.args.plan.now c.outlined_at-held.result c.outlined_at-held.ensures c.if-held.false)) ∙ zero_fault
+
+pub returns : goal.returns
+returns c =
+    let a = c.args in
+    let g = c.give_opened-2.ensures in
+    let k = open_none a.plan.now a.state.now (store c.before.before.before.before.before.before.before.before.before.before.before.before) (λ z. omega (arith, none c.before.before.before.before, z)) _ g.1 in
+    (g.0 ∙ k.0, k.1)

@@ -1,0 +1,23 @@
+-- `list::kinchoyu_calls` meets its contract: the list is run over the words of the state, which are written where they are as many as a state has.
+use Rattle.std.proofs.Common.{◌∙◌, ap}
+use Rattle.columns.specs.Intake.{store_of}
+use Rattle.columns.specs.declared.take.Marked.{Marked}
+use Rattle.capi.specs.Calls.{ran_over}
+use Rattle.capi.specs.CallsLaws.{list_given, list_kept}
+use Rattle.capi.specs.Intake.{marked_after}
+use Rattle.capi.proofs.list.kinchoyu_calls.Goals as goal
+
+pub returns-then-state-ne-STATE_WORDS : goal.returns-then-state-ne-STATE_WORDS
+returns-then-state-ne-STATE_WORDS c =
+    let a = c.args in
+    let r = c.run_over-told.ensures in
+    let t = (ran_over a.state.now a.list.now a.numbers.now (store_of a.constants.now a.copies.now a.scratch.now a.tables.now)).answer in
+    (ap (λ (m : Marked). m.number) r.0, (list_kept t a.state.now c.if-state-ne-STATE_WORDS.true, r.1))
+
+pub returns : goal.returns
+returns c =
+    let a = c.args in
+    let r = c.run_over-told.ensures in
+    let g = c.give_marked_back.ensures in
+    let t = (ran_over a.state.now a.list.now a.numbers.now (store_of a.constants.now a.copies.now a.scratch.now a.tables.now)).answer in
+    (g.0 ∙ ap (λ (m : Marked). m.number) r.0, (g.1 ∙ ap (λ (m : Marked). marked_after m a.state.now) r.0 ∙ list_given t a.state.now c.if-state-ne-STATE_WORDS.false, r.1))

@@ -1,0 +1,41 @@
+-- `list::run_over` meets its contract: the list is run from the state that the words encode, in its parts.
+use Rattle.std.proofs.Common.{ℕ, length, List, ◌∙◌, ◌≡◌, ap, arith}
+use Rattle.calls.specs.Encoded.{Ran, calls_of, ran_by}
+use Rattle.claim.specs.Keeping.{keeping}
+use Rattle.columns.specs.Given.{intake_in, marked_of}
+use Rattle.columns.specs.declared.intake.Intake.{Intake}
+use Rattle.encoding.specs.Encoding.{intake_of, state_length}
+use Rattle.encoding.specs.Held.{gates_in, holds, holds_none, nodes_in}
+use Rattle.capi.proofs.list.run_over.Goals as goal
+
+-- the words are as many as a state's
+long : (c : goal.Then-held) → length c.before.before.before.before.before.before.before.before.before.before.args.state.now ≡ state_length
+long c = (holds c.args.state.now c.held_at-held.result c.held_at-held.ensures c.if-held.true).long
+
+pub slice_bounds-run_calls-end : goal.slice_bounds-run_calls-end
+slice_bounds-run_calls-end c = omega (arith, long (c))
+
+pub slice_bounds-run_calls-end-then-held : goal.slice_bounds-run_calls-end-then-held
+slice_bounds-run_calls-end-then-held c = omega (arith, long c.before)
+
+-- what the list does, by the state that it starts from
+abbrev ran : goal.Start → Intake → Ran
+ran c s = let a = c.args in ran_by (calls_of a.list.now) (keeping s a.constants.now a.copies.now a.scratch.now a.tables.now) a.numbers.now
+
+pub returns-then-held : goal.returns-then-held
+returns-then-held c =
+    let ws = c.args.state.now in
+    let w = holds ws c.held_at-held.result c.held_at-held.ensures c.if-held.true in
+    let e : intake_in c.held_at-held.result.outline (gates_in ws) (nodes_in ws) c.held_at-held.result.counts c.marks_of-used.result ≡ intake_of ws =
+    ap (λ (us : List ℕ). intake_in c.held_at-held.result.outline (gates_in ws) (nodes_in ws) c.held_at-held.result.counts us) (c.marks_of-used.ensures ∙ w.marks) ∙ w.parts in
+    let r = c.run_calls.ensures in
+    (r.0 ∙ ap (λ (s : Intake). marked_of (ran c.before.before.before.before.before.before.before.before.before.before.before.before.before.before.before.before.before.before.before.before.before.before.before.before.before.before.before.before s).answer) e, (r.1.1 ∙ ap (λ (s : Intake). (ran c.before.before.before.before.before.before.before.before.before.before.before.before.before.before.before.before.before.before.before.before.before.before.before.before.before.before.before.before s).numbers) e, r.1.0 ∙ ap (λ (s : Intake). (ran c.before.before.before.before.before.before.before.before.before.before.before.before.before.before.before.before.before.before.before.before.before.before.before.before.before.before.before.before s).store) e))
+
+pub returns : goal.returns
+returns c =
+    let ws = c.args.state.now in
+    let n = c.zero-none.result in
+    let e : intake_in c.outline-outline.result n.gates n.nodes c.held_at-held.result.counts c.marks_of-used.result ≡ intake_of ws =
+    rw (c.outline-outline.ensures, c.zero-none.ensures, c.marks_of-used.ensures) (holds_none ws c.held_at-held.result c.held_at-held.ensures c.if-held.false) in
+    let r = c.run_calls-2.ensures in
+    (r.0 ∙ ap (λ (s : Intake). marked_of (ran c.before.before.before.before.before.before.before.before.before.before.before.before.before.before.before.before.before.before.before.before.before.before.before.before.before.before.before.before.before.before.before.before.before s).answer) e, (r.1.1 ∙ ap (λ (s : Intake). (ran c.before.before.before.before.before.before.before.before.before.before.before.before.before.before.before.before.before.before.before.before.before.before.before.before.before.before.before.before.before.before.before.before.before s).numbers) e, r.1.0 ∙ ap (λ (s : Intake). (ran c.before.before.before.before.before.before.before.before.before.before.before.before.before.before.before.before.before.before.before.before.before.before.before.before.before.before.before.before.before.before.before.before.before s).store) e))

@@ -1,0 +1,17 @@
+-- `listed::short_plan` meets its contract: what the reader of listings says, by the places that it answers.
+use Rattle.std.proofs.Common.{◌∙◌, ap, sym}
+use Rattle.listing.specs.ReaderLaws.{read_refused, read_whole}
+use Rattle.capi.specs.Listed.{short_plan}
+use Rattle.capi.proofs.listed.short_plan.Goals as goal
+
+pub returns-in-Whole : goal.returns-in-Whole
+returns-in-Whole c =
+    let ws = c.args.listing.now in
+    let g = c.enum_told-1.given in
+    sym (ap short_plan (read_whole ws g.0.0 (sym g.1 ∙ c.sections_of-sections.ensures)))
+
+pub returns-in-Refused : goal.returns-in-Refused
+returns-in-Refused c =
+    let ws = c.args.listing.now in
+    let g = c.sections-1.given in
+    sym (ap short_plan (read_refused ws g.0.0 (sym g.1 ∙ c.sections_of-sections.ensures)))

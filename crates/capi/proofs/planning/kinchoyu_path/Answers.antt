@@ -1,0 +1,38 @@
+-- `planning::kinchoyu_path` meets its contract: what the plan that stands in the words answers of the gate.
+use Rattle.std.proofs.Common.{ℕ, List, [], ◌∷◌, ◌∙◌, ◌≡◌, ap, refl, sym, arith}
+use Rattle.tree.specs.Plan.{plan_fault}
+use Rattle.tree.specs.PlanLaws.{zero_fault}
+use Rattle.encoding.specs.Encoding.{plan_of}
+use Rattle.encoding.specs.Held.{Plans, plans, plans_none}
+use Rattle.writer.specs.Hand.{handed}
+use Rattle.capi.specs.Planning.{path_words}
+use Rattle.capi.specs.PlanningLaws.{path_called, path_none}
+use Rattle.capi.proofs.planning.kinchoyu_path.Goals as goal
+
+-- what the words hold that hold a plan
+held : (c : goal.Then-held) → Plans c.before.before.before.before.args.plan.now c.before.outlined-at.result
+held c = plans c.args.plan.now c.outlined_at-held.result c.outlined_at-held.ensures c.if-held.true
+
+pub slice_bounds-gates-end : goal.slice_bounds-gates-end
+slice_bounds-gates-end c = omega (arith, (held c.before).long)
+
+pub slice_bounds-nodes-end : goal.slice_bounds-nodes-end
+slice_bounds-nodes-end c = omega (arith, (held c.before.before).long)
+
+pub returns-then-held : goal.returns-then-held
+returns-then-held c =
+    let a = c.args in
+    let h = c.hand in
+    let answer = c.parts_path-path in
+    let told : (c.bits-bits.result ∷ c.length-length.result ∷ c.bare-bare.result ∷ []) ≡ path_words answer.result.selection =
+    rw (c.bits-bits.ensures, c.length-length.ensures, c.bare-bare.ensures) refl in
+    path_called a.plan.now a.out.now a.gate _ answer.result _ _ (held c.before.before.before.before.before.before.before.before.before.before.before.before.before).parts answer.ensures (h.ensures ∙ ap (λ (ws : List ℕ). handed ws a.out.now) told) c.with_room.ensures h.auto.1.0
+
+-- words that hold none have a fault
+none : (c : goal.Else-held) → plan_fault (plan_of c.before.before.before.before.args.plan.now) ≡ 19
+none c = ap plan_fault (sym (plans_none c.args.plan.now c.outlined_at-held.result c.outlined_at-held.ensures c.if-held.false)) ∙ zero_fault
+
+pub returns : goal.returns
+returns c =
+    let a = c.args in
+    path_none a.plan.now a.out.now a.gate _ (λ z. omega (arith, none c.before.before.before.before.before, z)) c.hand-2.ensures

@@ -1,0 +1,42 @@
+-- `planning::kinchoyu_table_id` meets its contract: the table id of the plan that stands in the words.
+use Rattle.std.proofs.Common.{◌∙◌, ◌≡◌, ap, sym, arith}
+use Rattle.tree.specs.Plan.{plan_fault, table_id_answer}
+use Rattle.tree.specs.PlanLaws.{zero_fault}
+use Rattle.tree.specs.declared.plan.TableId.{TableId}
+use Rattle.encoding.specs.Encoding.{plan_of}
+use Rattle.encoding.specs.Held.{Plans, plans, plans_none}
+use Rattle.writer.specs.Hand.{hand_left, hand_number}
+use Rattle.capi.specs.Planning.{id_words}
+use Rattle.capi.specs.PlanningLaws.{id_none, none-handed}
+use Rattle.capi.proofs.planning.kinchoyu_table_id.Goals as goal
+
+-- what the words hold that hold a plan
+held : (c : goal.Then-held) → Plans c.before.before.before.before.args.plan.now c.before.outlined-at.result
+held c = plans c.args.plan.now c.outlined_at-held.result c.outlined_at-held.ensures c.if-held.true
+
+pub slice_bounds-gates-end : goal.slice_bounds-gates-end
+slice_bounds-gates-end c = omega (arith, (held c.before).long)
+
+pub slice_bounds-nodes-end : goal.slice_bounds-nodes-end
+slice_bounds-nodes-end c = omega (arith, (held c.before.before).long)
+
+pub returns-then-held : goal.returns-then-held
+returns-then-held c =
+    let a = c.args in
+    let t = c.parts_table_id-id in
+    let e : t.result ≡ table_id_answer (plan_of a.plan.now) = t.ensures ∙ ap table_id_answer (held c.before.before.before.before.before.before.before.before.before).parts in
+    let h = c.hand_unless.ensures in
+    let l : _ ≡ hand_left t.result.number (id_words t.result) a.out.now = h.1 in (
+      h.0 ∙ ap (λ (x : TableId). hand_number x.number (id_words x) a.out.now) e,
+      l ∙ ap (λ (x : TableId). hand_left x.number (id_words x) a.out.now) e,
+    )
+
+-- words that hold none have a fault
+none : (c : goal.Else-held) → plan_fault (plan_of c.before.before.before.before.args.plan.now) ≡ 19
+none c = ap plan_fault (sym (plans_none c.args.plan.now c.outlined_at-held.result c.outlined_at-held.ensures c.if-held.false)) ∙ zero_fault
+
+pub returns : goal.returns
+returns c =
+    let a = c.args in
+    let t = table_id_answer (plan_of a.plan.now) in
+    none-handed t.number (id_words t) a.out.now (id_none (plan_of a.plan.now) (λ z. omega (arith, none c, z)))

@@ -1,0 +1,107 @@
+-- `columns::row_tests::test_rows` meets its contract: as long as no fault was found, the records that are left decide what the whole piece decides (RowLoop).
+use Rattle.std.proofs.Common.{List, ◌≡◌, sym, ap, ◌∙◌, arith, ℕ, ◌+◌, ◌-◌, ◌<◌, ◌≤◌, length, get_or, take, drop, ◌≢◌}
+use Rattle.pieces.specs.Records.{cut, row_size}
+use Rattle.pieces.specs.Front.{front}
+use Rattle.pieces.specs.Rows.{Gates, row_fault}
+use Rattle.pieces.specs.RecordLaws.{uncut}
+use Rattle.pieces.specs.FaultLaws.{RowFine, row_cut, row_fine}
+use Rattle.columns.specs.Placed.{gates_by}
+use Rattle.columns.proofs.Parts.{rest_is}
+use Rattle.columns.proofs.RowLoop.{passed_none, passed-next, passed-found, passed_fine, passed_count, passed_marks}
+use Rattle.columns.proofs.row_tests.test_rows.Goals as goal
+
+-- a record without a fault is whole
+record Good (gs : Gates) (trace row i : ℕ) (piece : List ℕ) : Type 0 where
+  pub two : i + 1 < length piece
+  pub fits : get_or piece (i + 1) 0 ≤ length piece - (i + 2)
+  pub fine : RowFine gs trace row (get_or piece i 0) (get_or piece (i + 1) 0) (take (get_or piece (i + 1) 0) (drop (i + 2) piece))
+
+good_row : (gs : Gates) (trace row i : ℕ) (piece : List ℕ) → row_fault gs trace row (front row_size (drop i piece)) ≡ 0 → Good gs trace row i piece
+good_row gs trace row i piece e =
+    let bad : row_fault gs trace row cut ≢ 0 = λ z. omega (arith, z, row_cut gs trace row) in
+    let u = uncut row_size piece i (λ q. bad (ap (row_fault gs trace row) (sym q) ∙ e)) in
+    record { two = u.two; fits = u.fits; fine = row_fine gs trace row (get_or piece i 0) (get_or piece (i + 1) 0) _ (ap (row_fault gs trace row) (sym u.is) ∙ e) }
+
+pub loop-i-init : goal.loop-i-init
+loop-i-init c =
+    let a = c.args in
+    passed_none (gates_by a.many a.own.now a.barred.now) a.trace a.piece.now a.used.now a.count (omega (arith, c.requires))
+
+pub row_fault-fault-requires : goal.row_fault-fault-requires
+row_fault-fault-requires c = c.requires.0
+
+-- the part that is handed over is the words from i on
+part : (c : goal.After-row_fault-fault) → let a = c.args in let l = c.loop-i in
+    c.row_fault-fault.result ≡ row_fault (gates_by a.many a.own.now a.barred.now) a.trace l.row (front row_size (drop l.i a.piece.now))
+part c =
+    let a = c.args in
+    let l = c.loop-i in
+    c.row_fault-fault.ensures ∙ ap (λ (rest : List ℕ). row_fault (gates_by a.many a.own.now a.barred.now) a.trace l.row (front row_size rest)) (rest_is a.piece.now l.i)
+
+good : (c : goal.Else-fault-ne0) → let a = c.before.before.before.before.before.before.args in let l = c.before.before.before.before.loop in Good (gates_by a.many a.own.now a.barred.now) a.trace l.row l.i a.piece.now
+good c =
+    let a = c.args in
+    let l = c.loop-i in
+    good_row (gates_by a.many a.own.now a.barred.now) a.trace l.row l.i a.piece.now (sym (part c.before) ∙ c.if-fault-ne0.false)
+
+pub returns-then-fault-ne0 : goal.returns-then-fault-ne0
+returns-then-fault-ne0 c =
+    let a = c.args in
+    let l = c.loop-i in
+    let e = part c.before in (
+      e ∙ sym (passed-found (gates_by a.many a.own.now a.barred.now) a.trace a.piece.now a.used.now a.count l.used l.row l.i l.invariant (omega arith) (λ z. c.if-fault-ne0.true (e ∙ z))),
+      λ z. absurd (c.if-fault-ne0.true z),
+    )
+
+pub offset_bounds-piece-i-in-loop-i : goal.offset_bounds-piece-i-in-loop-i
+offset_bounds-piece-i-in-loop-i c = omega (arith, (good c).two)
+
+pub bounds-piece-i : goal.bounds-piece-i
+bounds-piece-i c = omega (arith, good c.before)
+
+pub offset_bounds-used-g : goal.offset_bounds-used-g
+offset_bounds-used-g c = omega (arith, (good c.before).fine, c.requires.0)
+
+pub bounds-used-g : goal.bounds-used-g
+bounds-used-g c = omega (arith, (good c.before).fine, c.requires.0)
+
+pub overflow_add-row : goal.overflow_add-row
+overflow_add-row c = omega (arith, (good c.before).fine, c.requires.2)
+
+pub overflow_add-i : goal.overflow_add-i
+overflow_add-i c = omega (arith, good c.before)
+
+pub overflow_add-i-in-loop-i : goal.overflow_add-i-in-loop-i
+overflow_add-i-in-loop-i c = omega (arith, good c.before)
+
+pub offset_bounds-piece-i-in-loop-i-2 : goal.offset_bounds-piece-i-in-loop-i-2
+offset_bounds-piece-i-in-loop-i-2 c = omega (arith, good c.before)
+
+pub bounds-piece-i-in-loop-i : goal.bounds-piece-i-in-loop-i
+bounds-piece-i-in-loop-i c = omega (arith, good c.before.before)
+
+pub overflow_add-i-in-loop-i-2 : goal.overflow_add-i-in-loop-i-2
+overflow_add-i-in-loop-i-2 c = omega (arith, good c.before.before)
+
+pub loop-i-smaller : goal.loop-i-smaller
+loop-i-smaller c = omega (arith, good c.before.before)
+
+pub loop-i-preserved : goal.loop-i-preserved
+loop-i-preserved c =
+    let a = c.args in
+    let l = c.loop-i in
+    let t = good c.before.before in
+    passed-next (gates_by a.many a.own.now a.barred.now) a.trace a.piece.now a.used.now a.count l.used l.row l.i l.invariant t.two t.fits t.fine
+
+pub returns : goal.returns
+returns c =
+    let a = c.args in
+    let l = c.loop-i in
+    let gs : Gates = gates_by a.many a.own.now a.barred.now in
+    let done : length a.piece.now ≤ l.i = c.loop-i-test.false in (
+      sym (passed_fine gs a.trace a.piece.now a.used.now a.count l.used l.row l.i l.invariant done),
+      λ _. (
+        passed_count gs a.trace a.piece.now a.used.now a.count l.used l.row l.i l.invariant done,
+        passed_marks gs a.trace a.piece.now a.used.now a.count l.used l.row l.i l.invariant done,
+      ),
+    )

@@ -1,0 +1,59 @@
+-- `columns::sections::unpadded_number` meets its contract: 19, then 1, then the circuit's own number before padding.
+use Rattle.std.proofs.Common.{◌≡◌, sym, ap, ◌∙◌, eq-eqb, ne_eqb, true, length, le-leb}
+use Rattle.std.proofs.lemmas.Bool.{lt-leb}
+use Rattle.base.specs.Pick.{pick_yes, pick_no}
+use Rattle.tree.specs.Plan.{gate_rows_answer, plan_fault}
+use Rattle.columns.proofs.RowLoop.{gates-number}
+use Rattle.base.specs.Firsts.{or_number, first-none, first_found}
+use Rattle.labels.specs.Ranges.{longest_trace}
+use Rattle.pieces.specs.Opening.{open_state}
+use Rattle.pieces.specs.Records.{rows_of}
+use Rattle.pieces.specs.Rows.{marked}
+use Rattle.columns.specs.Intake.{setting_of}
+use Rattle.columns.specs.Sections.{pieces_under, unpadded_last, unpadded_number, unpadded_call}
+use Rattle.columns.specs.SectionsLaws.{or_assoc}
+use Rattle.columns.proofs.sections.unpadded_number.Goals as goal
+
+-- the gates' answer is the plan's, and its number the plan's test
+answer-is : (c : goal.After-parts_rows-gates) → c.parts_rows-gates.result ≡ gate_rows_answer c.args.t1
+answer-is c = c.parts_rows-gates.ensures ∙ rw c.outline.ensures
+
+no_fault : (c : goal.Else-gates-ne0) → plan_fault c.before.before.before.before.before.before.before.before.before.before.before.before.before.args.t1 ≡ 0
+no_fault c = (gates-number c.args.t1 c.parts_rows-gates.result (answer-is c.before.before)).0 c.if-gates-ne0.false
+
+pub returns-then-gates-ne0 : goal.returns-then-gates-ne0
+returns-then-gates-ne0 c =
+    let q = c.args.t1 in
+    sym (pick_no _ _ 19 (ne_eqb (plan_fault q) 0 (λ z. c.if-gates-ne0.true ((gates-number q c.parts_rows-gates.result (answer-is c.before.before)).1 z))))
+
+pub returns-then-height-gt-LONGEST_TRACE : goal.returns-then-height-gt-LONGEST_TRACE
+returns-then-height-gt-LONGEST_TRACE c =
+    let a = c.args in
+    sym (pick_yes _ _ 19 (eq-eqb (plan_fault a.t1) 0 (no_fault c.before)) ∙ pick_no _ _ 1 (lt-leb a.height longest_trace c.if-height-gt-LONGEST_TRACE.true))
+
+pub test_pieces-tested-requires : goal.test_pieces-tested-requires
+test_pieces-tested-requires c = (no_fault c.before.before, answer-is c.before.before.before.before, c.if-height-gt-LONGEST_TRACE.false)
+
+-- past 19 and 1: labels and sections together, then the last tests
+parted : (c : goal.Else-height-gt-LONGEST_TRACE) → let a = c.before.before.before.before.before.before.before.before.before.before.before.before.before.before.args in let x = setting_of a.t1 in
+    unpadded_call x a.height a.gate a.rows.now a.s-words.now a.cells.now a.tables.now ≡ or_number (or_number x.labelled (pieces_under x a.height a.rows.now a.s-words.now a.cells.now a.tables.now)) (unpadded_last x a.height a.gate (length a.s-words.now) (length a.cells.now) (marked open_state.used (rows_of a.rows.now)))
+unfolding unpadded_number
+parted c =
+    let a = c.args in
+    pick_yes _ _ 19 (eq-eqb (plan_fault a.t1) 0 (no_fault c.before)) ∙ pick_yes _ _ 1 (le-leb a.height longest_trace c.if-height-gt-LONGEST_TRACE.false) ∙ sym (or_assoc _ _ _)
+
+pub returns-then-tested-ne0 : goal.returns-then-tested-ne0
+returns-then-tested-ne0 c =
+    let e = c.test_pieces-tested.ensures.number_value in
+    e ∙ sym (parted c.before.before.before.before ∙ first_found _ _ (λ z. c.if-tested-ne0.true (e ∙ z)))
+
+pub unpadded_last-requires : goal.unpadded_last-requires
+unpadded_last-requires c = (no_fault c.before.before.before.before.before, c.if-height-gt-LONGEST_TRACE.false)
+
+pub returns : goal.returns
+returns c =
+    let a = c.args in
+    let t = c.test_pieces-tested in
+    c.unpadded_last.ensures
+    ∙ ap (unpadded_last (setting_of a.t1) a.height a.gate (length a.s-words.now) (length a.cells.now)) (t.ensures.1 c.if-tested-ne0.false).1
+    ∙ sym (parted c.before.before.before.before.before ∙ first-none _ _ (sym t.ensures.0 ∙ c.if-tested-ne0.false))

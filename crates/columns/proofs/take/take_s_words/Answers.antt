@@ -1,0 +1,113 @@
+-- `columns::take::take_s_words` meets its contract: 19, 10, the first faulty word, then the words written behind the K columns.
+use Rattle.std.proofs.Common.{true, [], ◌≡◌, ◌∙◌, ap, sym, mul-le-mul, arith, ℕ, ◌+◌, ◌*◌, ◌≤◌, length}
+use Rattle.tree.specs.Plan.{plan_fault}
+use Rattle.tree.specs.SoundLaws.{Sound, sound}
+use Rattle.pieces.specs.Setting.{stands}
+use Rattle.pieces.specs.NumberLaws.{Counted, stood}
+use Rattle.columns.specs.Intake.{setting_of, state_of}
+use Rattle.columns.specs.Given.{given_of, intake_in}
+use Rattle.columns.specs.GivenLaws.{small}
+use Rattle.columns.specs.declared.intake.Intake.{Intake}
+use Rattle.pieces.specs.SWords.{s_words_number, s_words_written}
+use Rattle.pieces.specs.FaultLaws.{words_room}
+use Rattle.columns.specs.IntakeLaws.{plan_fine, words_19, words_10, words_own, words_refused, words-taken}
+use Rattle.columns.proofs.take.take_s_words.Goals as goal
+
+product : (a n b : ℕ) → a ≤ b → n ≤ 65536 → a * n ≤ b * 65536
+product a n b h k = mul-le-mul h k
+
+-- the state in parts
+abbrev held : goal.Start → Intake
+held c = intake_in c.args.outline c.args.gates.now c.args.nodes.now c.args.counts []
+
+-- the state stands, so its plan is sound and its counts are within
+upright : (c : goal.Then-stands) → stands (setting_of (held c.before.before.before.before.before.before).plan) (state_of (held c.before.before.before.before.before.before)) ≡ true
+upright c = sym (c.stands.ensures []) ∙ c.if-stands.taken
+
+no_fault : (c : goal.Then-stands) → plan_fault (held c.before.before.before.before.before.before).plan ≡ 0
+no_fault c = plan_fine (held c.before.before.before.before.before.before) (upright c)
+
+fine : (c : goal.Then-stands) → Sound (held c.before.before.before.before.before.before).plan
+fine c = sound (held c.before.before.before.before.before.before).plan (no_fault c)
+
+counts : (c : goal.Then-stands) → Counted (setting_of (held c.before.before.before.before.before.before).plan) (state_of (held c.before.before.before.before.before.before))
+counts c = (stood (setting_of (held c.before.before.before.before.before.before).plan) (state_of (held c.before.before.before.before.before.before)) (upright c)).counts
+
+pub rooms_of-requires : goal.rooms_of-requires
+rooms_of-requires c = let a = c.args in small a.outline a.gates.now a.nodes.now (no_fault c)
+
+pub returns-then-constants-rooms_of : goal.returns-then-constants-rooms_of
+returns-then-constants-rooms_of c =
+    let s = held c.before.before.before.before.before.before.before.before.before.before in
+    let a = c.args in
+    let r = c.rooms_of.ensures a.gates.now a.nodes.now in
+    let k = words_refused s a.piece.now a.constants.now 10 (words_10 s a.piece.now a.constants.now (upright c.before.before.before.before) (omega (arith, c.if-constants-rooms_of.taken, r.constants_are))) (λ z. omega arith) in
+    (c.give.ensures ∙ ap given_of k.0, k.1)
+
+pub overflow_mul-total : goal.overflow_mul-total
+overflow_mul-total c =
+    let q = c.args.outline in
+    let w = fine c.before.before.before.before in
+    omega (arith, product q.specialised q.trace 16 w.special w.ranges.long)
+
+pub s_words_fault-fault-requires : goal.s_words_fault-fault-requires
+s_words_fault-fault-requires c =
+    let q = c.args.outline in
+    let w = fine c.before.before.before.before in
+    ((counts c.before.before.before.before).words_in, omega (arith, product q.specialised q.trace 16 w.special w.ranges.long))
+
+-- the piece's number is its first faulty word's
+own : (c : goal.After-s_words_fault-fault) → let s = held c in let a = c.args in s_words_number (setting_of s.plan) (state_of s) a.piece.now a.constants.now ≡ c.s_words_fault-fault.result
+own c =
+    let a = c.args in
+    let r = c.rooms_of.ensures a.gates.now a.nodes.now in
+    words_own (held c.before.before.before.before.before.before.before.before.before.before.before) a.piece.now a.constants.now (upright c.before.before.before.before.before) (omega (arith, c.if-constants-rooms_of.left, r.constants_are)) ∙ sym c.s_words_fault-fault.ensures
+
+pub returns-then-fault-ne0 : goal.returns-then-fault-ne0
+returns-then-fault-ne0 c =
+    let a = c.args in
+    let k = words_refused (held c.before.before.before.before.before.before.before.before.before.before.before.before.before) a.piece.now a.constants.now _ (own c.before.before) c.if-fault-ne0.taken in
+    (c.give-then-fault-ne0.ensures ∙ ap given_of k.0, k.1)
+
+-- a piece without a fault ends within its section
+ends : (c : goal.Else-fault-ne0) → let a = c.before.before.before.before.before.before.before.before.before.before.before.before.args in a.counts.s_words + length a.piece.now ≤ a.outline.specialised * a.outline.trace
+ends c =
+    let a = c.args in
+    words_room (a.outline.specialised * a.outline.trace) a.counts.s_words a.piece.now (counts c.before.before.before.before.before.before).words_in (sym c.s_words_fault-fault.ensures ∙ c.if-fault-ne0.left)
+
+pub overflow_mul-at : goal.overflow_mul-at
+overflow_mul-at c =
+    let q = c.args.outline in
+    let w = fine c.before.before.before.before.before.before.before in
+    omega (arith, product q.told.constants q.trace 47 w.height w.ranges.long)
+
+pub overflow_add-at : goal.overflow_add-at
+overflow_add-at c =
+    let q = c.args.outline in
+    let w = fine c.before.before.before.before.before.before.before.before in
+    omega (arith, product q.specialised q.trace 16 w.special w.ranges.long, product q.told.constants q.trace 47 w.height w.ranges.long, ends c.before.before)
+
+pub write_words-requires : goal.write_words-requires
+write_words-requires c =
+    let a = c.args in
+    omega (arith, ends c.before.before.before, c.if-constants-rooms_of.left, (c.rooms_of.ensures a.gates.now a.nodes.now).constants_are)
+
+pub overflow_add-counts : goal.overflow_add-counts
+overflow_add-counts c =
+    let q = c.args.outline in
+    let w = fine c.before.before.before.before.before.before.before.before.before.before.before.before.before in
+    omega (arith, product q.specialised q.trace 16 w.special w.ranges.long, ends c.before.before.before.before.before.before.before)
+
+pub returns-then-stands : goal.returns-then-stands
+unfolding s_words_written
+returns-then-stands c =
+    let a = c.args in
+    let k = words-taken (held c.before.before.before.before.before.before.before.before.before.before.before.before.before.before.before.before.before.before.before.before) a.piece.now a.constants.now (own c.before.before.before.before.before.before.before.before.before ∙ c.if-fault-ne0.left) in
+    (c.give-then-stands.ensures ∙ ap given_of k.0, c.write_words.ensures ∙ k.1)
+
+pub returns : goal.returns
+returns c =
+    let s = held c.before.before.before.before.before.before.before in
+    let a = c.args in
+    let k = words_refused s a.piece.now a.constants.now 19 (words_19 s a.piece.now a.constants.now (sym (c.stands.ensures []) ∙ c.if-stands.left)) (λ z. omega arith) in
+    (c.give-2.ensures ∙ ap given_of k.0, k.1)

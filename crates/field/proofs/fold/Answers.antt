@@ -1,0 +1,22 @@
+-- `field::fold` meets its contract. Each step may pass 0 or 2 ^ 64, and is brought back by a multiple of p.
+use Rattle.std.proofs.Common.{◌≡◌, ◌+◌, ◌/◌, ◌^◌, ◌<◌, ◌⊎◌, inl, inr, ⊎_elim, arith}
+use Rattle.field.specs.Field.{p}
+use Rattle.field.proofs.Wide.{steps}
+use Rattle.field.proofs.fold.Goals as goal
+
+-- the difference, and that it is a word
+difference : (c : goal.Joined-l-hh) → (c.if1.t + c.before.before.args.h / 2 ^ 32 ≡ c.before.before.args.l + p) ⊎ (c.if1.t + c.before.before.args.h / 2 ^ 32 ≡ c.before.before.args.l)
+difference c = ⊎_elim (λ w. inl (omega arith)) (λ w. inr (omega arith)) c.if-l-hh.branch
+
+word : (c : goal.Joined-l-hh) → c.if1.t < 2 ^ 64
+word c = ⊎_elim (λ w. omega arith) (λ w. omega arith) c.if-l-hh.branch
+
+pub returns-then-s-m : goal.returns-then-s-m
+returns-then-s-m c =
+    let a = c.args in
+    steps a.h a.l c.if-l-hh.t _ (difference c.before.before) (inl (omega (arith, word c.before.before)))
+
+pub returns-else-s-m : goal.returns-else-s-m
+returns-else-s-m c =
+    let a = c.args in
+    steps a.h a.l c.if-l-hh.t _ (difference c.before.before) (inr (omega (arith, word c.before.before)))

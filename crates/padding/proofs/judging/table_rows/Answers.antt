@@ -1,0 +1,71 @@
+-- `judging::table_rows` meets its contract: the tables that are left have the rest of the rows.
+use Rattle.std.proofs.Common.{◌≡◌, sym, subst, arith, ℕ, ◌+◌, ◌-◌, ◌*◌, ◌≤◌, List, length, get_or}
+use Rattle.pieces.specs.Records.{table_size}
+use Rattle.pieces.specs.RecordLaws.{Uncut}
+use Rattle.padding.specs.Sums.{Summing, summing_begin, summing_here, summing_next, summing_passed, summing_done}
+use Rattle.padding.proofs.judging.table_rows.Goals as goal
+
+end : (ws : List ℕ) (i : ℕ) → Uncut table_size ws i → i + 2 + get_or ws i 0 * get_or ws (i + 1) 0 ≤ length ws
+end ws i u = omega (arith, u.two, u.fits)
+
+pub loop-i-init : goal.loop-i-init
+loop-i-init c = (omega arith, summing_begin c.args.tables.now c.requires)
+
+-- the table at the front is whole
+here : (c : goal.In-loop-i) → Uncut table_size c.args.tables.now c.loop-i.i
+here c = let l = c.loop-i in summing_here c.args.tables.now l.sum l.i l.invariant.1 (omega (arith, c.loop-i-test))
+
+pub overflow_add-n : goal.overflow_add-n
+overflow_add-n c = omega (arith, (here c).two)
+
+pub offset_bounds-tables-i : goal.offset_bounds-tables-i
+offset_bounds-tables-i c = omega (arith, (here c).two)
+
+pub bounds-tables-i : goal.bounds-tables-i
+bounds-tables-i c = omega (arith, (here c.before).two)
+
+pub overflow_sub-sum : goal.overflow_sub-sum
+overflow_sub-sum c = omega (arith, c.loop-i.invariant.0)
+
+pub returns-then-sum-n : goal.returns-then-sum-n
+returns-then-sum-n c =
+    let l = c.loop-i in
+    let ws = c.args.tables.now in
+    let p = summing_passed ws l.sum l.i l.invariant.1 (here c.before.before) in
+    let t = c.if-sum-n.true in
+    record { same = λ h. absurd (omega (arith, h, p, t, l.invariant.0)); above = λ h. omega arith; small = omega arith }
+
+pub overflow_add-sum : goal.overflow_add-sum
+overflow_add-sum c = omega (arith, c.loop-i.invariant.0, c.if-sum-n.false)
+
+pub offset_bounds-tables-i-in-loop-i : goal.offset_bounds-tables-i-in-loop-i
+offset_bounds-tables-i-in-loop-i c = omega (arith, (here c.before.before).two)
+
+pub bounds-tables-i-in-loop-i : goal.bounds-tables-i-in-loop-i
+bounds-tables-i-in-loop-i c = omega (arith, (here c.before.before.before).two)
+
+pub overflow_mul-i : goal.overflow_mul-i
+overflow_mul-i c = omega (arith, end c.args.tables.now c.loop-i.i (here c.before.before.before))
+
+pub overflow_add-i : goal.overflow_add-i
+overflow_add-i c = omega (arith, end c.args.tables.now c.loop-i.i (here c.before.before.before))
+
+pub overflow_add-i-in-loop-i : goal.overflow_add-i-in-loop-i
+overflow_add-i-in-loop-i c = omega (arith, end c.args.tables.now c.loop-i.i (here c.before.before.before))
+
+pub loop-i-smaller : goal.loop-i-smaller
+loop-i-smaller c = omega (arith, c.loop-i-test, end c.args.tables.now c.loop-i.i (here c.before.before.before))
+
+pub loop-i-preserved : goal.loop-i-preserved
+loop-i-preserved c =
+    let l = c.loop-i in
+    let ws = c.args.tables.now in
+    let j : l.i + 2 + get_or ws l.i 0 * get_or ws (l.i + 1) 0 ≡ l.i + (2 + get_or ws l.i 0 * get_or ws (l.i + 1) 0) = omega arith in
+    (omega (arith, l.invariant.0, c.if-sum-n.false), subst (λ (k : ℕ). Summing ws (l.sum + get_or ws (l.i + 1) 0) k) j (summing_next ws l.sum l.i l.invariant.1 (here c.before.before.before) (end ws l.i (here c.before.before.before))))
+
+pub returns : goal.returns
+returns c =
+    let l = c.loop-i in
+    let ws = c.args.tables.now in
+    let e = summing_done ws l.sum l.i l.invariant.1 (omega (arith, c.loop-i-test)) in
+    record { same = λ h. sym e; above = λ h. omega (arith, h, e); small = omega (arith, l.invariant.0) }

@@ -1,0 +1,32 @@
+-- `padding::pad` meets its contract: the reader's refusal, or the circuit of the words that the reader gives.
+use Rattle.std.proofs.Common.{sym, ap, ◌∙◌}
+use Rattle.listing.specs.Listing.{Reading}
+use Rattle.listing.specs.ReaderLaws.{read_whole, read_refused}
+use Rattle.padding.specs.Padding.{pad_by, pad_left_by, pad_answer, pad_left}
+use Rattle.padding.specs.PaddingLaws.{wrote_is}
+use Rattle.padding.proofs.padding.pad.Goals as goal
+
+pub pad_parts-requires : goal.pad_parts-requires
+pad_parts-requires c =
+    let ws = c.args.words.now in
+    let g = c.listing-1.given in
+    read_whole ws g.0.0 (sym g.1 ∙ c.sections_of-listing.ensures)
+
+pub returns-in-Whole : goal.returns-in-Whole
+unfolding pad_answer pad_left
+returns-in-Whole c =
+    let a = c.args in
+    let ws = a.words.now in
+    let g = c.listing-1.given in
+    let r = read_whole ws g.0.0 (sym g.1 ∙ c.sections_of-listing.ensures) in
+    let w = c.pad_parts.ensures in
+    (w.0 ∙ ap (λ (x : Reading). pad_by x a.out.now) (sym r), w.1 ∙ ap (λ (x : Reading). pad_left_by x a.out.now) (sym r))
+
+pub returns-in-Refused : goal.returns-in-Refused
+unfolding pad_answer pad_left
+returns-in-Refused c =
+    let a = c.args in
+    let ws = a.words.now in
+    let g = c.listing-in-Refused-1.given in
+    let r = read_refused ws g.0.0 (sym g.1 ∙ c.sections_of-listing.ensures) in
+    (wrote_is _ g.0.0 0 c.refused.ensures.0 c.refused.ensures.1 ∙ ap (λ (x : Reading). pad_by x a.out.now) (sym r), ap (λ (x : Reading). pad_left_by x a.out.now) (sym r))

@@ -1,0 +1,31 @@
+-- `program::program::run_read` meets its contract: the code makes the definition's tests, and the words read are those of the bytes.
+use Rattle.std.proofs.Common.{List, length, take, replicate, length-take-le, ◌≡◌, sym, ap, ◌∙◌, arith, ℕ, ◌/◌, ◌%◌, ◌≤◌}
+use Rattle.std.proofs.lemmas.List.{length-replicate}
+use Rattle.octets.specs.Text.{sink, put}
+use Rattle.octets.specs.Words.{words_of, words_read}
+use Rattle.octets.specs.WordLaws.{words_whole}
+use Rattle.program.specs.Program.{printed}
+use Rattle.program.specs.ProgramLaws.{text-long, text-odd, text-words}
+use Rattle.program.proofs.program.run_read.Goals as goal
+
+pub returns-then-bytes-gt-MOST_BYTES : goal.returns-then-bytes-gt-MOST_BYTES
+returns-then-bytes-gt-MOST_BYTES c = c.Put-refused.ensures ∙ ap (put (sink c.args.out.now 0)) (text-long c.args.bytes.now c.if-bytes-gt-MOST_BYTES.true)
+
+pub returns-then-bytes-ne0 : goal.returns-then-bytes-ne0
+returns-then-bytes-ne0 c = c.put_refused-then-bytes-ne0.ensures ∙ ap (put (sink c.args.out.now 0)) (text-odd c.args.bytes.now (omega (arith, c.if-bytes-gt-MOST_BYTES.false)) c.if-bytes-ne0.true)
+
+pub slice_bounds-run_words-end : goal.slice_bounds-run_words-end
+slice_bounds-run_words-end c =
+    let w = c.read_words-many in
+    let l : length w.new.1.0 ≡ 8192 = w.auto.1.0 ∙ length-replicate {A = ℕ} 8192 0 in
+    let h : w.result ≤ length w.new.1.0 = omega (arith, w.ensures.0, l, length-replicate {A = ℕ} 8192 0) in
+    sym (length-take-le w.result w.new.1.0 h)
+
+pub returns : goal.returns
+returns c =
+    let a = c.args in
+    let w = c.read_words-many in
+    let n : length a.bytes.now % 8 ≡ 0 = c.if-bytes-ne0.false in
+    let h : length a.bytes.now / 8 ≤ length (replicate {A = ℕ} 8192 0) = omega (arith, c.if-bytes-gt-MOST_BYTES.false, length-replicate {A = ℕ} 8192 0) in
+    let e : take w.result w.new.1.0 ≡ words_of a.bytes.now = ap (λ (k : ℕ). take k w.new.1.0) w.ensures.0 ∙ ap (take (words_read a.bytes.now (replicate 8192 0))) w.ensures.1 ∙ words_whole a.bytes.now (replicate 8192 0) h in
+    c.run_words.ensures ∙ ap (λ (ws : List ℕ). put (sink a.out.now 0) (printed ws)) e ∙ ap (put (sink a.out.now 0)) (text-words a.bytes.now (omega (arith, c.if-bytes-gt-MOST_BYTES.false)) n)

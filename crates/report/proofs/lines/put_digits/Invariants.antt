@@ -1,0 +1,12 @@
+-- `report::lines::put_digits` meets its contract. What is left of the path is what the bits left say.
+use Rattle.std.proofs.Common.{◌≡◌, List, ℕ, ◌-◌, length, drop}
+use Rattle.octets.specs.Text.{sink, put}
+use Rattle.base.specs.Digits.{digits, Spelled}
+use Rattle.report.specs.Report.{digits_of}
+use Rattle.report.proofs.lines.put_digits.Given as goal
+
+abbrev pub invariant-loop-i : goal.invariant-loop-i
+invariant-loop-i l = (length l.out ≡ length l.initial.out) × ((path : List ℕ) → Spelled path l.bits l.steps → (digits (l.steps - l.i) l.rest ≡ drop l.i path) × (put (sink l.initial.out l.at) (digits_of path) ≡ put (sink l.out l.place) (digits_of (drop l.i path))))
+
+abbrev pub decreases-loop-i : goal.decreases-loop-i
+decreases-loop-i l = l.steps - l.i

@@ -1,0 +1,89 @@
+-- `stage::circuit::give_sections` meets its contract: each call on the plan's parts is the next step of the chain.
+use Rattle.std.proofs.Common.{rules, ◌≡◌, refl, sym, ap, ◌∙◌, length}
+use Rattle.selector.specs.Gates.{gate_slots}
+use Rattle.selector.specs.Nodes.{node_slots}
+use Rattle.pieces.specs.Calls.{rows, s_words, cell_words, table_words}
+use Rattle.columns.specs.Intake.{state_in, with_state}
+use Rattle.claim.specs.Chain.{Kept, next, chained}
+use Rattle.claim.specs.Keeping.{keeping}
+use Rattle.stage.specs.Steps.{step_rows, step_words, step_cells, step_tables, step_finishing}
+use Rattle.stage.proofs.circuit.give_sections.Goals as goal
+
+-- a plan's arrays have all their words
+gates-long : (c : goal.Start) → length c.args.plan.gates ≡ gate_slots
+gates-long c = search rules
+
+nodes-long : (c : goal.Start) → length c.args.plan.nodes ≡ node_slots
+nodes-long c = search rules
+
+pub slice_bounds-take_rows-end : goal.slice_bounds-take_rows-end
+slice_bounds-take_rows-end c = sym (gates-long c.before.before.before.before.before.before.before.before.before.before.before.before)
+
+pub slice_bounds-take_rows-end-2 : goal.slice_bounds-take_rows-end-2
+slice_bounds-take_rows-end-2 c = sym (nodes-long c.before.before.before.before.before.before.before.before.before.before.before.before.before)
+
+pub slice_bounds-take_s_words-end : goal.slice_bounds-take_s_words-end
+slice_bounds-take_s_words-end c = sym (gates-long c.before.before.before.before.before.before.before.before.before.before.before.before.before.before.before.before.before.before.before)
+
+pub slice_bounds-take_s_words-end-2 : goal.slice_bounds-take_s_words-end-2
+slice_bounds-take_s_words-end-2 c = sym (nodes-long c.before.before.before.before.before.before.before.before.before.before.before.before.before.before.before.before.before.before.before.before)
+
+pub slice_bounds-take_cells-end : goal.slice_bounds-take_cells-end
+slice_bounds-take_cells-end c = sym (gates-long c.before.before.before.before.before.before.before.before.before.before.before.before.before.before.before.before.before.before.before.before.before.before.before.before.before.before)
+
+pub slice_bounds-take_cells-end-2 : goal.slice_bounds-take_cells-end-2
+slice_bounds-take_cells-end-2 c = sym (nodes-long c.before.before.before.before.before.before.before.before.before.before.before.before.before.before.before.before.before.before.before.before.before.before.before.before.before.before.before)
+
+pub slice_bounds-take_tables-end : goal.slice_bounds-take_tables-end
+slice_bounds-take_tables-end c = sym (gates-long c.before.before.before.before.before.before.before.before.before.before.before.before.before.before.before.before.before.before.before.before.before.before.before.before.before.before.before.before.before.before.before.before.before.before.before.before)
+
+pub slice_bounds-take_tables-end-2 : goal.slice_bounds-take_tables-end-2
+slice_bounds-take_tables-end-2 c = sym (nodes-long c.before.before.before.before.before.before.before.before.before.before.before.before.before.before.before.before.before.before.before.before.before.before.before.before.before.before.before.before.before.before.before.before.before.before.before.before.before)
+
+pub slice_bounds-take_finish-end : goal.slice_bounds-take_finish-end
+slice_bounds-take_finish-end c = sym (gates-long c.before.before.before.before.before.before.before.before.before.before.before.before.before.before.before.before.before.before.before.before.before.before.before.before.before.before.before.before.before.before.before.before.before.before.before.before.before.before.before.before.before.before.before)
+
+pub slice_bounds-take_finish-end-2 : goal.slice_bounds-take_finish-end-2
+slice_bounds-take_finish-end-2 c = sym (nodes-long c.before.before.before.before.before.before.before.before.before.before.before.before.before.before.before.before.before.before.before.before.before.before.before.before.before.before.before.before.before.before.before.before.before.before.before.before.before.before.before.before.before.before.before.before)
+
+pub shape_of-constants : goal.shape_of-constants
+shape_of-constants c = c.take_s_words-told.auto.constants ∙ c.take_rows-told.auto.constants
+
+pub shape_of-copies : goal.shape_of-copies
+shape_of-copies c = c.take_finish.auto.copies ∙ c.take-Cells.auto.1.1.1.1.1.0
+
+pub shape_of-scratch : goal.shape_of-scratch
+shape_of-scratch c = c.take-Cells.auto.1.1.1.1.1.1.0
+
+pub shape_of-tables : goal.shape_of-tables
+shape_of-tables c = c.take_tables-told.auto.tables
+
+pub returns : goal.returns
+unfolding chained
+returns c =
+    let a = c.args in
+    let q = a.plan in
+    let u = c.outline-outline in
+    let r = c.take_rows-told in
+    let w = c.take_s_words-told in
+    let e = c.take-Cells in
+    let t = c.take_tables-told in
+    let f = c.take_finish in
+    let m = r.result.used in
+    let d₁ = r.new.1.1.1.1.1.1.0 in
+    let d₂ = w.new.1.1.1.1.1.0 in
+    let p₁ = e.new.1.1.1.1.1.0 in
+    let z₁ = e.new.1.1.1.1.1.1.0 in
+    let b₁ = t.new.1.1.1.1.1.0 in
+    let p₂ = f.new.1.1.1.1.1.0 in
+    let h₀ : Kept = keeping (with_state q (state_in a.counts a.marks)) a.constants.now a.copies.now a.scratch.now a.tables.now in
+    let h₁ : Kept = next (rows a.rows.now) h₀ in
+    let h₂ : Kept = next (s_words a.s-words.now) h₁ in
+    let h₃ : Kept = next (cell_words a.cells.now) h₂ in
+    let h₄ : Kept = next (table_words a.table-words.now) h₃ in
+    let k₁ = step_rows q u.result u.ensures a.counts a.marks h₀ a.constants.now a.copies.now a.scratch.now a.tables.now refl r.result a.rows.now d₁ r.ensures.0 r.ensures.1 in
+    let k₂ = step_words q u.result u.ensures r.result.counts m h₁ d₁ a.copies.now a.scratch.now a.tables.now k₁ w.result a.s-words.now d₂ w.ensures.0 w.ensures.1 in
+    let k₃ = step_cells q u.result u.ensures w.result.counts m h₂ d₂ a.copies.now a.scratch.now a.tables.now k₂ e.result a.cells.now p₁ z₁ e.ensures.0 e.ensures.1 in
+    let k₄ = step_tables q u.result u.ensures e.result.counts m h₃ d₂ p₁ z₁ a.tables.now k₃ t.result a.table-words.now b₁ t.ensures.0 t.ensures.1 in
+    let k₅ = step_finishing q u.result u.ensures t.result.counts m h₄ d₂ p₁ z₁ b₁ k₄ f.result p₂ f.ensures.0 f.ensures.1 in
+    ap (λ (k : Kept). k.store) k₅

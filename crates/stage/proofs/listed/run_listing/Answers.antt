@@ -1,0 +1,26 @@
+-- `stage::listed::run_listing` meets its contract: the reader's refusal, or the circuit of the words that the reader gives.
+use Rattle.std.proofs.Common.{sym, ◌∙◌}
+use Rattle.columns.specs.Intake.{store_of}
+use Rattle.listing.specs.Places.{words_at}
+use Rattle.listing.specs.ReaderLaws.{read_whole, read_refused}
+use Rattle.stage.specs.Listed.{listed_whole, listed_refused}
+use Rattle.stage.proofs.listed.run_listing.Goals as goal
+
+pub returns-in-Whole : goal.returns-in-Whole
+returns-in-Whole c =
+    let a = c.args in
+    let ws = a.words.now in
+    let b = store_of a.constants.now a.copies.now a.scratch.now a.tables.now in
+    let g = c.listing-1.given in
+    let w = c.run_parts.ensures in
+    let k = listed_whole ws b (words_at ws g.0.0) (read_whole ws g.0.0 (sym g.1 ∙ c.sections_of-listing.ensures)) in
+    (w.0 ∙ k.0, w.1 ∙ k.1)
+
+pub returns-in-Refused : goal.returns-in-Refused
+returns-in-Refused c =
+    let a = c.args in
+    let ws = a.words.now in
+    let b = store_of a.constants.now a.copies.now a.scratch.now a.tables.now in
+    let g = c.listing-in-Refused-1.given in
+    let k = listed_refused ws b g.0.0 (read_refused ws g.0.0 (sym g.1 ∙ c.sections_of-listing.ensures)) in
+    (c.refused.ensures ∙ k.0, k.1)

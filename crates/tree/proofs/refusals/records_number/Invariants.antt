@@ -1,0 +1,10 @@
+-- `refusals::records_number` meets its contract: the records that are left, from the present one on, are refused as all are.
+use Rattle.std.proofs.Common.{◌-◌, ◌≤◌, ◌≡◌}
+use Rattle.selector.specs.Refusals.{records_number}
+use Rattle.tree.proofs.refusals.records_number.Given as goal
+
+abbrev pub invariant-loop-g : goal.invariant-loop-g
+invariant-loop-g l = (l.g ≤ l.many) × (records_number l.many l.gates 0 ≡ records_number (l.many - l.g) l.gates l.g)
+
+abbrev pub decreases-loop-g : goal.decreases-loop-g
+decreases-loop-g l = l.many - l.g

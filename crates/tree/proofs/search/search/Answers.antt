@@ -1,0 +1,91 @@
+-- `search::search` meets its contract: the targets that are left, from the present one on, have the first tree of all.
+use Rattle.std.proofs.Common.{◌-◌, ◌≤◌, ◌∙◌, ap, refl, arith}
+use Rattle.base.specs.Limits.{most_gates}
+use Rattle.base.specs.Exponent.{exponent, exponent-least}
+use Rattle.selector.specs.RecordLaws.{top-constants, top-degree}
+use Rattle.selector.specs.Search.{factor_of}
+use Rattle.tree.proofs.SearchLaws.{bounds_are, cap_all, cap-next, order_distinct, order_listed, search_begin, target_lost, target_none, target_won, within}
+use Rattle.tree.proofs.search.search.Goals as goal
+
+pub arrange-ranged-requires : goal.arrange-ranged-requires
+arrange-ranged-requires c = (c.requires.sound, refl)
+
+pub overflow_sub-base : goal.overflow_sub-base
+overflow_sub-base c = omega (arith, c.arrange-ranged.ensures.degree_value.1.1.1)
+
+pub overflow_add-left-2 : goal.overflow_add-left-2
+overflow_add-left-2 c =
+    let r = c.arrange-ranged in
+    let few : exponent (most_gates - r.result.base) ≤ 7 = exponent-least (most_gates - r.result.base) 7 (omega arith) in
+    omega (arith, c.power_above-levels.ensures.0)
+
+pub factor_of-target-requires : goal.factor_of-target-requires
+factor_of-target-requires c =
+    let a = c.args in
+    let p = c.requires in
+    let r = c.arrange-ranged in
+    omega (arith, r.ensures.1.0, top-degree a.gates.now a.many a.extra p.0)
+
+pub loop-k-init : goal.loop-k-init
+loop-k-init c =
+    let a = c.args in
+    let p = c.requires in
+    let r = c.arrange-ranged in (
+      omega arith,
+      omega (arith, c.factor_of-target.ensures.1),
+      p.1,
+      search_begin a.gates.now a.many a.extra _ (c.factor_of-target.ensures.0 ∙ ap factor_of r.ensures.1.0),
+    )
+
+pub try_find_placement_for_degree-count-requires : goal.try_find_placement_for_degree-count-requires
+try_find_placement_for_degree-count-requires c =
+    let a = c.args in
+    let p = c.requires in
+    let r = c.arrange-ranged in
+    let l = c.loop-k in
+    let w = c.power_above-levels in
+    let few : exponent (most_gates - r.result.base) ≤ 7 = exponent-least (most_gates - r.result.base) 7 (omega arith) in
+    let q = top-constants a.gates.now a.many a.extra p.0 in (
+      (p.0.all, omega (arith, r.ensures.1.1.0, w.ensures.0), r.ensures.1.1.1.0, l.invariant.2),
+      (
+        order_listed a.gates.now a.many a.extra r.new.1.1.1.0 r.result.base r.ensures.0,
+        order_distinct a.gates.now a.many a.extra r.new.1.1.1.0 r.result.base r.ensures.0,
+      ),
+    )
+
+pub returns-then-count-ne0 : goal.returns-then-count-ne0
+returns-then-count-ne0 c =
+    let a = c.args in
+    let r = c.arrange-ranged in
+    let l = c.loop-k in
+    let w = c.power_above-levels in
+    let e = c.try_find_placement_for_degree-count.ensures in (
+      rw l.invariant.3 (target_won a.many (within a.gates.now a.many a.extra) l.k l.target _ _ c.loop-k-test.true
+          (rw (bounds_are a.gates.now a.many a.extra r.new.1.1.1.0 r.result.base r.ensures.0 l.target _ _ r.ensures.1.1.1.0 w.ensures.0 r.ensures.1.1.0) at e.0) c.if-count-ne0.true),
+      e.1,
+    )
+
+pub overflow_mul-target : goal.overflow_mul-target
+overflow_mul-target c =
+    let l = c.loop-k in
+    omega (arith, l.invariant.1, cap_all l.k)
+
+pub loop-k-preserved : goal.loop-k-preserved
+loop-k-preserved c =
+    let a = c.args in
+    let r = c.arrange-ranged in
+    let l = c.loop-k in
+    let w = c.power_above-levels in
+    let e = c.try_find_placement_for_degree-count.ensures in (
+      omega (arith, l.invariant.0),
+      cap-next l.k l.target c.loop-k-test.true l.invariant.0 l.invariant.1,
+      e.1,
+      l.invariant.3 ∙ target_lost a.many (within a.gates.now a.many a.extra) l.k l.target _ _ c.loop-k-test.true
+          (rw (bounds_are a.gates.now a.many a.extra r.new.1.1.1.0 r.result.base r.ensures.0 l.target _ _ r.ensures.1.1.1.0 w.ensures.0 r.ensures.1.1.0) at e.0) c.if-count-ne0.false,
+    )
+
+pub returns : goal.returns
+returns c =
+    let a = c.args in
+    let l = c.loop-k in
+    (rw (l.invariant.3 ∙ target_none a.many (within a.gates.now a.many a.extra) l.k l.target c.loop-k-test.false) refl, l.invariant.2)

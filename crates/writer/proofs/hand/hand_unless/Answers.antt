@@ -1,0 +1,20 @@
+-- `hand::hand_unless` meets its contract: refused, too short, handed out.
+use Rattle.std.proofs.Common.{◌∙◌}
+use Rattle.writer.specs.HandLaws.{hand_given, hand_refused, hand_short}
+use Rattle.writer.proofs.hand.hand_unless.Goals as goal
+
+pub returns-then-number-ne0 : goal.returns-then-number-ne0
+returns-then-number-ne0 c =
+    let a = c.args in
+    hand_refused a.number a.words.now a.out.now c.if-number-ne0.true
+
+pub returns-then-out-words : goal.returns-then-out-words
+returns-then-out-words c =
+    let a = c.args in
+    hand_short a.number a.words.now a.out.now c.if-number-ne0.false c.if-out-words.true
+
+pub returns : goal.returns
+returns c =
+    let a = c.args in
+    let k = hand_given a.number a.words.now a.out.now c.if-number-ne0.false c.if-out-words.false in
+    (k.0, c.hand.ensures ∙ k.1)
