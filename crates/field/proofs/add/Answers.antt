@@ -2,10 +2,11 @@
 use native.Mathlib.Nat.{add-mod_right, mod-add-mod}
 use Rattle.std.proofs.Common.{◌≡◌, ℕ, ◌+◌, ◌%◌, sym, ap, ◌∙◌, ⊎_elim, arith}
 use Rattle.field.specs.Field.{p}
+use Rattle.field.proofs.add.Goals.{Joined-s-x}
 use Rattle.field.proofs.add.Goals as goal
 
 -- the corrected sum is the sum, or the sum less p
-sum : (c : goal.Joined-s-x) → c.if1.w % p ≡ (c.before.before.reduce.result + c.before.before.before.args.b) % p
+sum : (c : Joined-s-x) → c.if-s-x.w % p ≡ (c.reduce-x.result + c.args.b) % p
 sum c =
     let x = c.reduce-x.result in
     let b = c.args.b in

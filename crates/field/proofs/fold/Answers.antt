@@ -2,13 +2,14 @@
 use Rattle.std.proofs.Common.{◌≡◌, ◌+◌, ◌/◌, ◌^◌, ◌<◌, ◌⊎◌, inl, inr, ⊎_elim, arith}
 use Rattle.field.specs.Field.{p}
 use Rattle.field.proofs.Wide.{steps}
+use Rattle.field.proofs.fold.Goals.{Joined-l-hh}
 use Rattle.field.proofs.fold.Goals as goal
 
 -- the difference, and that it is a word
-difference : (c : goal.Joined-l-hh) → (c.if1.t + c.before.before.args.h / 2 ^ 32 ≡ c.before.before.args.l + p) ⊎ (c.if1.t + c.before.before.args.h / 2 ^ 32 ≡ c.before.before.args.l)
+difference : (c : Joined-l-hh) → (c.if-l-hh.t + c.args.h / 2 ^ 32 ≡ c.args.l + p) ⊎ (c.if-l-hh.t + c.args.h / 2 ^ 32 ≡ c.args.l)
 difference c = ⊎_elim (λ w. inl (omega arith)) (λ w. inr (omega arith)) c.if-l-hh.branch
 
-word : (c : goal.Joined-l-hh) → c.if1.t < 2 ^ 64
+word : (c : Joined-l-hh) → c.if-l-hh.t < 2 ^ 64
 word c = ⊎_elim (λ w. omega arith) (λ w. omega arith) c.if-l-hh.branch
 
 pub returns-then-s-m : goal.returns-then-s-m

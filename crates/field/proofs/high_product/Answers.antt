@@ -1,9 +1,10 @@
 -- `field::high_product` meets its contract. In the products of halves, all that the body computes is linear.
 use Rattle.std.proofs.Common.{arith}
 use Rattle.field.proofs.Product.{Bounds, bounds, whole}
+use Rattle.field.proofs.high_product.Goals.{Start}
 use Rattle.field.proofs.high_product.Goals as goal
 
-facts : (c : goal.Start) → Bounds c.args.u c.args.v
+facts : (c : Start) → Bounds c.args.u c.args.v
 facts c = bounds c.args.u c.args.v c.ranges.u.fits c.ranges.v.fits
 
 pub overflow_mul-w0 : goal.overflow_mul-w0

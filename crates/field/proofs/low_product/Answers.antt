@@ -1,9 +1,10 @@
 -- `field::low_product` meets its contract.
 use Rattle.std.proofs.Common.{◌+◌, ◌*◌, ◌/◌, ◌%◌, ◌^◌, ◌∙◌, arith}
 use Rattle.field.proofs.Product.{Bounds, bounds, whole, low_word}
+use Rattle.field.proofs.low_product.Goals.{Start}
 use Rattle.field.proofs.low_product.Goals as goal
 
-facts : (c : goal.Start) → Bounds c.args.u c.args.v
+facts : (c : Start) → Bounds c.args.u c.args.v
 facts c = bounds c.args.u c.args.v c.ranges.u.fits c.ranges.v.fits
 
 pub overflow_mul-u1 : goal.overflow_mul-u1
@@ -18,6 +19,6 @@ overflow_mul-u0-2 c = omega (arith, facts c.before)
 pub returns : goal.returns
 returns c =
     let a = c.args in
-    c.wrapping_add_u64.ensures
-    ∙ rw (c.wrapping_add_u64-cross.ensures, whole a.u a.v)
+    c.wrapping_add_u64.ensures.value
+    ∙ rw (c.wrapping_add_u64-cross.ensures.value, whole a.u a.v)
     (low_word (a.u / 2 ^ 32 * (a.v / 2 ^ 32)) (a.u / 2 ^ 32 * (a.v % 2 ^ 32) + a.u % 2 ^ 32 * (a.v / 2 ^ 32)) (a.u % 2 ^ 32 * (a.v % 2 ^ 32)))

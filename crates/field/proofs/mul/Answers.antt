@@ -8,5 +8,5 @@ returns c =
     let a = c.args in
     c.reduce.ensures
     ∙ c.fold.ensures
-    ∙ rw (c.high_product.ensures, c.low_Product.ensures)
+    ∙ rw (c.high_product.ensures, c.low_product.ensures)
     (ap (λ (x : ℕ). x % p) (div-add-mod' (a.a * a.b) (2 ^ 64)))

@@ -6,30 +6,31 @@ use Rattle.claim.specs.Chain.{Kept, answer, left}
 use Rattle.calls.specs.Encoded.{Ran, call_by}
 use Rattle.calls.specs.EncodedLaws.{Fits, ran_20, ran_10, turn_start, turn_fits, turn_next, turn_end}
 use Rattle.calls.proofs.list.run_calls.Invariants.{within}
+use Rattle.calls.proofs.list.run_calls.Goals.{After-shared_slice_known-in-loop-at-1, At-loop-at, In-loop-at, Start}
 use Rattle.calls.proofs.list.run_calls.Goals as goal
 
 -- what is kept at the start
-abbrev start : goal.Start → Kept
+abbrev start : Start → Kept
 start c =
     let a = c.args in
     within a.outline a.gates.now a.nodes.now a.counts a.used a.constants.now a.copies.now a.scratch.now a.tables.now
 
 -- and at the loop's head
-abbrev kept : goal.At-loop-at → Kept
+abbrev kept : At-loop-at → Kept
 kept c =
     let a = c.before.before.before.before.before.before.before.before.before.before.before.before.before.before.args in
     let l = c.loop in
     within a.outline a.gates.now a.nodes.now l.held l.marks l.constants l.copies l.scratch l.tables
 
 -- in the loop the call at the place is all there, and there is room for its number
-there : (c : goal.In-loop-at) → let a = c.args in let l = c.loop-at in Fits a.list.now l.at × (l.place < length l.numbers)
+there : (c : In-loop-at) → let a = c.args in let l = c.loop-at in Fits a.list.now l.at × (l.place < length l.numbers)
 there c =
     let a = c.args in
     let l = c.loop-at in
     turn_fits a.list.now (start c.before.before.before.before.before.before.before.before.before.before.before.before.before.before.before) a.numbers.now l.at l.place (kept c.before) l.numbers l.invariant.6 (omega arith)
 
 -- the numbers are no more than the list's words
-small : (c : goal.After-shared_slice_known-in-loop-at-1) → (c.loop-at.place + 1) * 8 < 18446744073709551616
+small : (c : After-shared_slice_known-in-loop-at-1) → (c.loop-at.place + 1) * 8 < 18446744073709551616
 small c = omega (arith, c.loop-at.invariant.7)
 
 pub returns-then-counted-lt1 : goal.returns-then-counted-lt1

@@ -8,9 +8,9 @@ use Rattle.capi.proofs.intake.give_back.Goals as goal
 pub returns-then-given-eq0 : goal.returns-then-given-eq0
 returns-then-given-eq0 c =
     let a = c.args in
-    (refl, c.encode_counts.ensures ∙ marked-given (marked_with a.given.number a.given.counts (marks_at a.state.now)) a.state.now c.if-given-eq0.true)
+    record { value = refl; state_after = c.encode_counts.ensures ∙ marked-given (marked_with a.given.number a.given.counts (marks_at a.state.now)) a.state.now c.if-given-eq0.true }
 
 pub returns-else-given-eq0 : goal.returns-else-given-eq0
 returns-else-given-eq0 c =
     let a = c.args in
-    (refl, marked-kept (marked_with a.given.number a.given.counts (marks_at a.state.now)) a.state.now c.if-given-eq0.false)
+    record { value = refl; state_after = marked-kept (marked_with a.given.number a.given.counts (marks_at a.state.now)) a.state.now c.if-given-eq0.false }

@@ -13,11 +13,11 @@ pub returns-then-number-ne0 : goal.returns-then-number-ne0
 unfolding opened_words
 returns-then-number-ne0 c =
     let a = c.args in
-    (refl, c.hand.ensures ∙ sym (pick_no (eqb a.number 0) _ (handed (replicate state_length 0) a.state.now) (ne_eqb a.number 0 c.if-number-ne0.true)))
+    record { value = refl; state_after = c.hand.ensures ∙ sym (pick_no (eqb a.number 0) _ (handed (replicate state_length 0) a.state.now) (ne_eqb a.number 0 c.if-number-ne0.true)) }
 
 pub returns : goal.returns
 unfolding opened_words
 returns c =
     let a = c.args in
     let new = progress_of (with_state zero_plan open_state) in
-    (refl, c.encode_progress.ensures ∙ ap (progressed new) c.hand-2.ensures ∙ sym (pick_yes (eqb a.number 0) (progressed new (handed a.plan.now a.state.now)) _ (eq-eqb a.number 0 c.if-number-ne0.false)))
+    record { value = refl; state_after = c.encode_progress.ensures ∙ ap (progressed new) c.hand-2.ensures ∙ sym (pick_yes (eqb a.number 0) (progressed new (handed a.plan.now a.state.now)) _ (eq-eqb a.number 0 c.if-number-ne0.false)) }

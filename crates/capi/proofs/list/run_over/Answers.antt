@@ -6,21 +6,22 @@ use Rattle.columns.specs.Given.{intake_in, marked_of}
 use Rattle.columns.specs.declared.intake.Intake.{Intake}
 use Rattle.encoding.specs.Encoding.{intake_of, state_length}
 use Rattle.encoding.specs.Held.{gates_in, holds, holds_none, nodes_in}
+use Rattle.capi.proofs.list.run_over.Goals.{Start, Then-held}
 use Rattle.capi.proofs.list.run_over.Goals as goal
 
 -- the words are as many as a state's
-long : (c : goal.Then-held) → length c.before.before.before.before.before.before.before.before.before.before.args.state.now ≡ state_length
+long : (c : Then-held) → length c.args.state.now ≡ state_length
 long c = (holds c.args.state.now c.held_at-held.result c.held_at-held.ensures c.if-held.true).long
 
+-- what the list does, by the state that it starts from
+abbrev ran : Start → Intake → Ran
+ran c s = let a = c.args in ran_by (calls_of a.list.now) (keeping s a.constants.now a.copies.now a.scratch.now a.tables.now) a.numbers.now
+
 pub slice_bounds-run_calls-end : goal.slice_bounds-run_calls-end
-slice_bounds-run_calls-end c = omega (arith, long (c))
+slice_bounds-run_calls-end c = omega (arith, long (c.before))
 
 pub slice_bounds-run_calls-end-then-held : goal.slice_bounds-run_calls-end-then-held
-slice_bounds-run_calls-end-then-held c = omega (arith, long c.before)
-
--- what the list does, by the state that it starts from
-abbrev ran : goal.Start → Intake → Ran
-ran c s = let a = c.args in ran_by (calls_of a.list.now) (keeping s a.constants.now a.copies.now a.scratch.now a.tables.now) a.numbers.now
+slice_bounds-run_calls-end-then-held c = omega (arith, long c.before.before)
 
 pub returns-then-held : goal.returns-then-held
 returns-then-held c =

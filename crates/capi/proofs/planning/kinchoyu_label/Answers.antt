@@ -6,11 +6,11 @@ use Rattle.capi.proofs.planning.kinchoyu_label.Goals as goal
 pub returns-then-out-lt1 : goal.returns-then-out-lt1
 returns-then-out-lt1 c =
     let a = c.args in
-    label_short a.n a.c a.cell a.out.now c.if-out-lt1.true
+    let both = label_short a.n a.c a.cell a.out.now c.if-out-lt1.true in record { value = both.0; out_after = both.1 }
 
 pub returns : goal.returns
 returns c =
     let a = c.args in
     let e = c.label-label.ensures in
     let k = label_taken a.n a.c a.cell a.out.now c.if-out-lt1.false in
-    (e.0 ∙ k.0, ap (set a.out.now 0) e.1 ∙ k.1)
+    record { value = e.0 ∙ k.0; out_after = ap (set a.out.now 0) e.1 ∙ k.1 }

@@ -2,19 +2,20 @@
 use Rattle.std.proofs.Common.{rules, length, ◌∙◌, ◌≡◌}
 use Rattle.labels.specs.Ranges.{most_columns}
 use Rattle.capi.specs.PlanningLaws.{representatives_short, representatives_taken}
+use Rattle.capi.proofs.planning.kinchoyu_representatives.Goals.{After-representatives-found}
 use Rattle.capi.proofs.planning.kinchoyu_representatives.Goals as goal
+
+-- the arrays of an answer by value have their lengths
+values-long : (c : After-representatives-found) → length c.representatives-found.result.values ≡ most_columns
+values-long c = search rules
+
+powers-long : (c : After-representatives-found) → length c.representatives-found.result.powers ≡ most_columns
+powers-long c = search rules
 
 pub returns-then-out-lt-REPRESENTATIVES_WORDS : goal.returns-then-out-lt-REPRESENTATIVES_WORDS
 returns-then-out-lt-REPRESENTATIVES_WORDS c =
     let a = c.args in
-    representatives_short a.n a.c a.out.now c.if-out-lt-REPRESENTATIVES_WORDS.true
-
--- the arrays of an answer by value have their lengths
-values-long : (c : goal.After-representatives-found) → length c.representatives-found.result.values ≡ most_columns
-values-long c = search rules
-
-powers-long : (c : goal.After-representatives-found) → length c.representatives-found.result.powers ≡ most_columns
-powers-long c = search rules
+    let both = representatives_short a.n a.c a.out.now c.if-out-lt-REPRESENTATIVES_WORDS.true in record { value = both.0; out_after = both.1 }
 
 pub returns : goal.returns
 returns c =
@@ -22,4 +23,4 @@ returns c =
     let a = c.args in
     let k = representatives_taken a.n a.c a.out.now c.representatives-found.result.values c.representatives-found.result.powers _ _ _ _ c.if-out-lt-REPRESENTATIVES_WORDS.false (values-long c.before.before.before.before.before.before.before.before.before.before.before.before.before.before.before.before.before) (powers-long c.before.before.before.before.before.before.before.before.before.before.before.before.before.before.before.before.before)
     e.1.0 e.1.1.0 e.1.1.1 c.put_words.ensures c.put_words-2.ensures c.put_words-3.ensures in
-    (e.0 ∙ k.0, k.1)
+    record { value = e.0 ∙ k.0; out_after = k.1 }

@@ -8,11 +8,16 @@ use Rattle.encoding.specs.Held.{Plans, gates_in, nodes_in, plans, plans_none}
 use Rattle.writer.specs.Hand.{hand_left, hand_number}
 use Rattle.capi.specs.Planning.{stats_words}
 use Rattle.capi.specs.PlanningLaws.{none-handed}
+use Rattle.capi.proofs.planning.kinchoyu_stats.Goals.{Else-held, Then-held}
 use Rattle.capi.proofs.planning.kinchoyu_stats.Goals as goal
 
 -- what the words hold that hold a plan
-held : (c : goal.Then-held) → Plans c.before.before.before.before.args.plan.now c.before.outlined-at.result
+held : (c : Then-held) → Plans c.args.plan.now c.outlined_at-held.result
 held c = plans c.args.plan.now c.outlined_at-held.result c.outlined_at-held.ensures c.if-held.true
+
+-- words that hold none have a fault
+none : (c : Else-held) → plan_fault (plan_of c.args.plan.now) ≡ 19
+none c = ap plan_fault (sym (plans_none c.args.plan.now c.outlined_at-held.result c.outlined_at-held.ensures c.if-held.false)) ∙ zero_fault
 
 pub slice_bounds-gates-end : goal.slice_bounds-gates-end
 slice_bounds-gates-end c = omega (arith, (held c.before).long)
@@ -28,16 +33,9 @@ returns-then-held c =
     let p = (held c.before.before.before.before.before.before.before.before.before.before).parts in
     let f = c.parts_fault.ensures in
     let h = c.hand_unless.ensures in
-    let l : _ ≡ hand_left c.parts_fault.result new out = h.1 in (
-      h.0 ∙ ap (λ (n : ℕ). hand_number n new out) f ∙ ap (λ (q : Plan). hand_number (plan_fault q) (stats_words q) out) p,
-      l ∙ ap (λ (n : ℕ). hand_left n new out) f ∙ ap (λ (q : Plan). hand_left (plan_fault q) (stats_words q) out) p,
-    )
-
--- words that hold none have a fault
-none : (c : goal.Else-held) → plan_fault (plan_of c.before.before.before.before.args.plan.now) ≡ 19
-none c = ap plan_fault (sym (plans_none c.args.plan.now c.outlined_at-held.result c.outlined_at-held.ensures c.if-held.false)) ∙ zero_fault
+    let l : _ ≡ hand_left c.parts_fault.result new out = h.1 in record { value = h.0 ∙ ap (λ (n : ℕ). hand_number n new out) f ∙ ap (λ (q : Plan). hand_number (plan_fault q) (stats_words q) out) p; out_after = l ∙ ap (λ (n : ℕ). hand_left n new out) f ∙ ap (λ (q : Plan). hand_left (plan_fault q) (stats_words q) out) p }
 
 pub returns : goal.returns
 returns c =
     let a = c.args in
-    none-handed (plan_fault (plan_of a.plan.now)) (stats_words (plan_of a.plan.now)) a.out.now (none c)
+    let both = none-handed (plan_fault (plan_of a.plan.now)) (stats_words (plan_of a.plan.now)) a.out.now (none c) in record { value = both.0; out_after = both.1 }

@@ -8,11 +8,16 @@ use Rattle.encoding.specs.Held.{Plans, plans, plans_none}
 use Rattle.writer.specs.Hand.{hand_left, hand_number}
 use Rattle.capi.specs.Planning.{id_words}
 use Rattle.capi.specs.PlanningLaws.{id_none, none-handed}
+use Rattle.capi.proofs.planning.kinchoyu_table_id.Goals.{Else-held, Then-held}
 use Rattle.capi.proofs.planning.kinchoyu_table_id.Goals as goal
 
 -- what the words hold that hold a plan
-held : (c : goal.Then-held) → Plans c.before.before.before.before.args.plan.now c.before.outlined-at.result
+held : (c : Then-held) → Plans c.args.plan.now c.outlined_at-held.result
 held c = plans c.args.plan.now c.outlined_at-held.result c.outlined_at-held.ensures c.if-held.true
+
+-- words that hold none have a fault
+none : (c : Else-held) → plan_fault (plan_of c.args.plan.now) ≡ 19
+none c = ap plan_fault (sym (plans_none c.args.plan.now c.outlined_at-held.result c.outlined_at-held.ensures c.if-held.false)) ∙ zero_fault
 
 pub slice_bounds-gates-end : goal.slice_bounds-gates-end
 slice_bounds-gates-end c = omega (arith, (held c.before).long)
@@ -26,17 +31,10 @@ returns-then-held c =
     let t = c.parts_table_id-id in
     let e : t.result ≡ table_id_answer (plan_of a.plan.now) = t.ensures ∙ ap table_id_answer (held c.before.before.before.before.before.before.before.before.before).parts in
     let h = c.hand_unless.ensures in
-    let l : _ ≡ hand_left t.result.number (id_words t.result) a.out.now = h.1 in (
-      h.0 ∙ ap (λ (x : TableId). hand_number x.number (id_words x) a.out.now) e,
-      l ∙ ap (λ (x : TableId). hand_left x.number (id_words x) a.out.now) e,
-    )
-
--- words that hold none have a fault
-none : (c : goal.Else-held) → plan_fault (plan_of c.before.before.before.before.args.plan.now) ≡ 19
-none c = ap plan_fault (sym (plans_none c.args.plan.now c.outlined_at-held.result c.outlined_at-held.ensures c.if-held.false)) ∙ zero_fault
+    let l : _ ≡ hand_left t.result.number (id_words t.result) a.out.now = h.1 in record { value = h.0 ∙ ap (λ (x : TableId). hand_number x.number (id_words x) a.out.now) e; out_after = l ∙ ap (λ (x : TableId). hand_left x.number (id_words x) a.out.now) e }
 
 pub returns : goal.returns
 returns c =
     let a = c.args in
     let t = table_id_answer (plan_of a.plan.now) in
-    none-handed t.number (id_words t) a.out.now (id_none (plan_of a.plan.now) (λ z. omega (arith, none c, z)))
+    let both = none-handed t.number (id_words t) a.out.now (id_none (plan_of a.plan.now) (λ z. omega (arith, none c, z))) in record { value = both.0; out_after = both.1 }

@@ -4,21 +4,22 @@ use Rattle.std.proofs.Common.{sym, ◌∙◌, arith, leb-true, ◌+◌, ◌*◌,
 use Rattle.pieces.specs.Setting.{cols}
 use Rattle.pieces.specs.Cells.{placeholder, index_of, first_seen, seen_again}
 use Rattle.pieces.specs.CellLaws.{place_skip, place_first, place_again}
+use Rattle.columns.proofs.cells.place_cell.Goals.{Else-is_placeholder}
 use Rattle.columns.proofs.cells.place_cell.Goals as goal
+
+-- the word names a variable, and its two scratch words are there
+plain : (c : Else-is_placeholder) → c.args.variable.0 < placeholder
+plain c =
+    let a = c.args in
+    leb-false placeholder a.variable.0 (sym c.is_placeholder.ensures ∙ c.if-is_placeholder.false)
+
+room : (c : Else-is_placeholder) → 2 * index_of c.args.variable.0 + 1 < length c.args.scratch.now
+room c = c.requires.placeable (plain c)
 
 pub returns-then-is_placeholder : goal.returns-then-is_placeholder
 returns-then-is_placeholder c =
     let a = c.args in
     sym (place_skip a.cell a.variable.0 (cols a.copies.now a.scratch.now) (leb-true placeholder a.variable.0 (sym c.is_placeholder.ensures ∙ c.if-is_placeholder.true)))
-
--- the word names a variable, and its two scratch words are there
-plain : (c : goal.Else-is_placeholder) → c.before.before.before.before.args.variable.0 < placeholder
-plain c =
-    let a = c.args in
-    leb-false placeholder a.variable.0 (sym c.is_placeholder.ensures ∙ c.if-is_placeholder.false)
-
-room : (c : goal.Else-is_placeholder) → 2 * index_of c.before.before.before.before.args.variable.0 + 1 < length c.before.before.before.before.args.scratch.now
-room c = c.requires.placeable (plain c)
 
 pub bounds-scratch-at : goal.bounds-scratch-at
 bounds-scratch-at c = omega (arith, room c.before.before.before, c.as_variable_index.ensures)

@@ -8,7 +8,7 @@ pub loop-i-init : goal.loop-i-init
 loop-i-init c = (omega arith, refl, refl, rw add-zero)
 
 pub place_cell-requires : goal.place_cell-requires
-place_cell-requires c = (omega (arith, c.loop-i.invariant), λ q. omega (arith, c.loop-i.invariant, c.requires.by_index c.loop-i.i c.loop-i-test.true q))
+place_cell-requires c = record { cell_in_bounds = omega (arith, c.loop-i.invariant); placeable = λ q. omega (arith, c.loop-i.invariant, c.requires.by_index c.loop-i.i c.loop-i-test.true q) }
 
 pub loop-i-preserved : goal.loop-i-preserved
 loop-i-preserved c =

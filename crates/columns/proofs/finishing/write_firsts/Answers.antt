@@ -16,7 +16,7 @@ pub write_back-requires : goal.write_back-requires
 write_back-requires c =
     let a = c.args in
     let l = c.loop-v in
-    ((omega (arith, c.requires.variables_bound), omega (arith, c.requires.variables_bound), omega (arith, c.requires.variables_bound, l.invariant.1)), each a.variables a.cells a.scratch.now c.requires.scratch_value l.v c.loop-v-test.true)
+    record { v_bound = (omega (arith, c.requires.variables_bound), omega (arith, c.requires.variables_bound), omega (arith, c.requires.variables_bound, l.invariant.1)); v_value = each a.variables a.cells a.scratch.now c.requires.scratch_value l.v c.loop-v-test.true }
 
 pub overflow_add-v : goal.overflow_add-v
 overflow_add-v c = omega (arith, c.requires.variables_bound)

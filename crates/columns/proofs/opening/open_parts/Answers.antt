@@ -14,39 +14,56 @@ use Rattle.columns.specs.GivenLaws.{small}
 use Rattle.columns.specs.Intake.{setting_of, store_of}
 use Rattle.columns.specs.IntakeLaws.{short_room, long_room, open_19, open_10, open_own, opened_long, open_refused, open_taken}
 use Rattle.columns.specs.Rooms.{RoomsOf, Small}
+use Rattle.columns.proofs.opening.open_parts.Goals.{After-fill_labels-number, After-room_number-short, After-rooms_of-rooms, Else-parts_fault-ne0, Else-short-ne0, Start}
 use Rattle.columns.proofs.opening.open_parts.Goals as goal
+
+-- the plan that the parts are, and the four lent buffers
+abbrev plan : Start → Plan
+plan c = plan_in c.args.outline c.args.gates.now c.args.nodes.now
+
+abbrev store : Start → Store
+store c = store_of c.args.constants.now c.args.copies.now c.args.scratch.now c.args.tables.now
+
+fine : (c : Else-parts_fault-ne0) → plan_fault (plan c) ≡ 0
+fine c = sym c.parts_fault.ensures ∙ c.if-parts_fault-ne0.false
+
+few : (c : Else-parts_fault-ne0) → Small c.args.outline
+few c = let a = c.args in small a.outline a.gates.now a.nodes.now (fine c)
+
+short-is : (c : After-room_number-short) → c.room_number-short.result ≡ pick (room_to_open (setting_of (plan c)) (store c)) 0 10
+short-is c = let a = c.args in c.room_number-short.ensures a.gates.now a.nodes.now
+
+-- every buffer has its named words
+room : (c : Else-short-ne0) → room_to_open (setting_of (plan c)) (store c) ≡ true
+room c = long_room (room_to_open (setting_of (plan c.before.before.before.before.before.before.before.before.before.before.before.before.before.before)) (store c.before.before.before.before.before.before.before.before.before.before.before.before.before.before)) c.room_number-short.result (short-is c.before) c.if-short-ne0.false
 
 -- with the ranges and the room that opening has tested, the labels' number is the search's
 fill_is : (n k : ℕ) (copies : List ℕ) → ranges_fit n k ≡ true → k * n ≤ length copies → fill_number n k copies ≡ search_number n k
 unfolding fill_number
 fill_is n k copies r h = rw (r, le-leb (k * n) (length copies) h)
 
+-- opening's number is the labels'
+number_is : (c : After-fill_labels-number) → open_number (setting_of (plan c)) (store c) ≡ c.fill_labels-number.result
+number_is c =
+    let q = plan c.before.before.before.before.before.before.before.before.before.before.before.before.before.before.before.before in
+    let b = store c.before.before.before.before.before.before.before.before.before.before.before.before.before.before.before.before in
+    let f = fine c.before.before.before.before in
+    let r = room c.before.before in
+    open_own q b f r ∙ sym (c.fill_labels-number.ensures.value ∙ fill_is q.trace q.copy b.cells.copies (sound q f).ranges_fit_too (opened_long q b r).1)
+
+rooms-are : (c : After-rooms_of-rooms) → RoomsOf (setting_of (plan c)) c.rooms_of-rooms.result
+rooms-are c = let a = c.args in c.rooms_of-rooms.ensures a.gates.now a.nodes.now
+
 four : {a a' b b' s s' t t' : List ℕ} → a ≡ a' → b ≡ b' → s ≡ s' → t ≡ t' → store_of a b s t ≡ store_of a' b' s' t'
 four e f g h = cc
-
--- the plan that the parts are, and the four lent buffers
-abbrev plan : goal.Start → Plan
-plan c = plan_in c.args.outline c.args.gates.now c.args.nodes.now
-
-abbrev store : goal.Start → Store
-store c = store_of c.args.constants.now c.args.copies.now c.args.scratch.now c.args.tables.now
 
 pub returns-then-parts_fault-ne0 : goal.returns-then-parts_fault-ne0
 returns-then-parts_fault-ne0 c =
     let e = open_19 (plan c) (store c) (λ z. c.if-parts_fault-ne0.true (c.parts_fault.ensures ∙ z)) in
-    (sym e, (open_refused (plan c) (store c) 19 e (λ z. omega arith)).1)
-
-fine : (c : goal.Else-parts_fault-ne0) → plan_fault (plan c.before.before.before.before.before.before.before.before) ≡ 0
-fine c = sym c.parts_fault.ensures ∙ c.if-parts_fault-ne0.false
-
-few : (c : goal.Else-parts_fault-ne0) → Small c.before.before.before.before.before.before.before.before.args.outline
-few c = let a = c.args in small a.outline a.gates.now a.nodes.now (fine c)
+    record { value = sym e; tables_after = (open_refused (plan c) (store c) 19 e (λ z. omega arith)).1 }
 
 pub room_number-short-requires : goal.room_number-short-requires
-room_number-short-requires c = few c.before.before.before.before
-
-short-is : (c : goal.After-room_number-short) → c.room_number-short.result ≡ pick (room_to_open (setting_of (plan c)) (store c)) 0 10
-short-is c = let a = c.args in c.room_number-short.ensures a.gates.now a.nodes.now
+room_number-short-requires c = few c
 
 pub returns-then-short-ne0 : goal.returns-then-short-ne0
 returns-then-short-ne0 c =
@@ -54,21 +71,8 @@ returns-then-short-ne0 c =
     let b = store c.before.before.before.before.before.before.before.before.before.before.before.before.before.before in
     let r = c.room_number-short.result in
     let h = short_room (room_to_open (setting_of q) b) r (short-is c.before) c.if-short-ne0.true in
-    let e = open_10 q b (fine c.before.before.before.before.before.before) h.0 ∙ sym h.1 in
-    (sym e, (open_refused q b r e c.if-short-ne0.true).1)
-
--- every buffer has its named words
-room : (c : goal.Else-short-ne0) → room_to_open (setting_of (plan c.before.before.before.before.before.before.before.before.before.before.before.before.before.before)) (store c.before.before.before.before.before.before.before.before.before.before.before.before.before.before) ≡ true
-room c = long_room (room_to_open (setting_of (plan c.before.before.before.before.before.before.before.before.before.before.before.before.before.before)) (store c.before.before.before.before.before.before.before.before.before.before.before.before.before.before)) c.room_number-short.result (short-is c.before) c.if-short-ne0.false
-
--- opening's number is the labels'
-number_is : (c : goal.After-fill_labels-number) → open_number (setting_of (plan c)) (store c) ≡ c.fill_labels-number.result
-number_is c =
-    let q = plan c.before.before.before.before.before.before.before.before.before.before.before.before.before.before.before.before in
-    let b = store c.before.before.before.before.before.before.before.before.before.before.before.before.before.before.before.before in
-    let f = fine c.before.before.before.before.before.before.before.before in
-    let r = room c.before.before in
-    open_own q b f r ∙ sym (c.fill_labels-number.ensures.value ∙ fill_is q.trace q.copy b.cells.copies (sound q f).ranges_fit_too (opened_long q b r).1)
+    let e = open_10 q b (fine c.before.before) h.0 ∙ sym h.1 in
+    record { value = sym e; tables_after = (open_refused q b r e c.if-short-ne0.true).1 }
 
 pub returns-then-number-ne0 : goal.returns-then-number-ne0
 returns-then-number-ne0 c =
@@ -78,13 +82,10 @@ returns-then-number-ne0 c =
     let f = c.fill_labels-number in
     let e = number_is c.before.before.before in
     let kept = f.ensures.1 ∙ written_refused q.trace q.copy a.copies.now (λ z. c.if-number-ne0.true (f.ensures.0 ∙ z)) in
-    (sym e, ap (λ (y : List ℕ). store_of a.constants.now y a.scratch.now a.tables.now) kept ∙ (open_refused q b f.result e c.if-number-ne0.true).1)
+    record { value = sym e; tables_after = ap (λ (y : List ℕ). store_of a.constants.now y a.scratch.now a.tables.now) kept ∙ (open_refused q b f.result e c.if-number-ne0.true).1 }
 
 pub rooms_of-rooms-requires : goal.rooms_of-rooms-requires
-rooms_of-rooms-requires c = few c.before.before.before.before.before.before.before.before.before.before.before
-
-rooms-are : (c : goal.After-rooms_of-rooms) → RoomsOf (setting_of (plan c)) c.rooms_of-rooms.result
-rooms-are c = let a = c.args in c.rooms_of-rooms.ensures a.gates.now a.nodes.now
+rooms_of-rooms-requires c = few c.before.before.before.before.before.before.before
 
 pub clear-requires : goal.clear-requires
 clear-requires c = omega (arith, (opened_long (plan c.before.before.before.before.before.before.before.before.before.before.before.before.before.before.before.before.before.before.before.before.before) (store c.before.before.before.before.before.before.before.before.before.before.before.before.before.before.before.before.before.before.before.before.before) (room c.before.before.before.before.before.before.before)).3, (rooms-are c.before).tables_are)
@@ -110,4 +111,4 @@ returns c =
     let constants = c.clear-3.ensures ∙ ap (λ (n : ℕ). cleared n a.constants.now) r.constants_are in
     let scratch = c.clear-2.ensures ∙ ap (λ (n : ℕ). cleared n a.scratch.now) r.scratch_is in
     let tables = c.clear.ensures ∙ ap (λ (n : ℕ). cleared n a.tables.now) r.tables_are in
-    (sym e, four constants labelled scratch tables ∙ (open_taken q (store c.before.before.before.before.before.before.before.before.before.before.before.before.before.before.before.before) e).1)
+    record { value = sym e; tables_after = four constants labelled scratch tables ∙ (open_taken q (store c.before.before.before.before.before.before.before.before.before.before.before.before.before.before.before.before) e).1 }

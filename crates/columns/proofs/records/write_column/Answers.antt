@@ -2,19 +2,20 @@
 use Rattle.std.proofs.Common.{◌≡◌, refl, sym, ◌∙◌, add-zero, arith, ◌+◌, ◌-◌, ◌<◌, length, length-set}
 use Rattle.columns.specs.Lines.{strided_turn, strided_done}
 use Rattle.columns.proofs.Strides.{stride_begin, stride_in, stride_next}
+use Rattle.columns.proofs.records.write_column.Goals.{In-loop-i}
 use Rattle.columns.proofs.records.write_column.Goals as goal
+
+-- the present place is in the words
+inside : (c : In-loop-i) → c.loop-i.place < length c.args.words.now
+inside c =
+    let l = c.loop-i in
+    stride_in c.args.many c.args.step _ l.i l.place l.invariant.0 c.loop-i-test.true
 
 pub loop-i-init : goal.loop-i-init
 loop-i-init c =
     let a = c.args in
     let z : a.many - 0 ≡ a.many = omega arith in
     (stride_begin a.many a.step (length a.words.now) a.from c.requires.1, refl, rw (z, add-zero))
-
--- the present place is in the words
-inside : (c : goal.In-loop-i) → c.loop-i.place < length c.args.words.now
-inside c =
-    let l = c.loop-i in
-    stride_in c.args.many c.args.step _ l.i l.place l.invariant.0 c.loop-i-test.true
 
 pub offset_bounds-words-place : goal.offset_bounds-words-place
 offset_bounds-words-place c = omega (arith, inside c)

@@ -8,7 +8,16 @@ use Rattle.pieces.specs.FaultLaws.{RowFine, row_cut, row_fine}
 use Rattle.columns.specs.Placed.{gates_by}
 use Rattle.columns.proofs.Parts.{rest_is}
 use Rattle.columns.proofs.RowLoop.{passed_none, passed-next, passed-found, passed_fine, passed_count, passed_marks}
+use Rattle.columns.proofs.row_tests.test_rows.Goals.{After-row_fault-fault, Else-fault-ne0}
 use Rattle.columns.proofs.row_tests.test_rows.Goals as goal
+
+-- the part that is handed over is the words from i on
+part : (c : After-row_fault-fault) → let a = c.args in let l = c.loop-i in
+    c.row_fault-fault.result ≡ row_fault (gates_by a.many a.own.now a.barred.now) a.trace l.row (front row_size (drop l.i a.piece.now))
+part c =
+    let a = c.args in
+    let l = c.loop-i in
+    c.row_fault-fault.ensures ∙ ap (λ (rest : List ℕ). row_fault (gates_by a.many a.own.now a.barred.now) a.trace l.row (front row_size rest)) (rest_is a.piece.now l.i)
 
 -- a record without a fault is whole
 record Good (gs : Gates) (trace row i : ℕ) (piece : List ℕ) : Type 0 where
@@ -22,6 +31,12 @@ good_row gs trace row i piece e =
     let u = uncut row_size piece i (λ q. bad (ap (row_fault gs trace row) (sym q) ∙ e)) in
     record { two = u.two; fits = u.fits; fine = row_fine gs trace row (get_or piece i 0) (get_or piece (i + 1) 0) _ (ap (row_fault gs trace row) (sym u.is) ∙ e) }
 
+good : (c : Else-fault-ne0) → let a = c.args in let l = c.loop-i in Good (gates_by a.many a.own.now a.barred.now) a.trace l.row l.i a.piece.now
+good c =
+    let a = c.args in
+    let l = c.loop-i in
+    good_row (gates_by a.many a.own.now a.barred.now) a.trace l.row l.i a.piece.now (sym (part c.before) ∙ c.if-fault-ne0.false)
+
 pub loop-i-init : goal.loop-i-init
 loop-i-init c =
     let a = c.args in
@@ -30,28 +45,11 @@ loop-i-init c =
 pub row_fault-fault-requires : goal.row_fault-fault-requires
 row_fault-fault-requires c = c.requires.0
 
--- the part that is handed over is the words from i on
-part : (c : goal.After-row_fault-fault) → let a = c.args in let l = c.loop-i in
-    c.row_fault-fault.result ≡ row_fault (gates_by a.many a.own.now a.barred.now) a.trace l.row (front row_size (drop l.i a.piece.now))
-part c =
-    let a = c.args in
-    let l = c.loop-i in
-    c.row_fault-fault.ensures ∙ ap (λ (rest : List ℕ). row_fault (gates_by a.many a.own.now a.barred.now) a.trace l.row (front row_size rest)) (rest_is a.piece.now l.i)
-
-good : (c : goal.Else-fault-ne0) → let a = c.before.before.before.before.before.before.args in let l = c.before.before.before.before.loop in Good (gates_by a.many a.own.now a.barred.now) a.trace l.row l.i a.piece.now
-good c =
-    let a = c.args in
-    let l = c.loop-i in
-    good_row (gates_by a.many a.own.now a.barred.now) a.trace l.row l.i a.piece.now (sym (part c.before) ∙ c.if-fault-ne0.false)
-
 pub returns-then-fault-ne0 : goal.returns-then-fault-ne0
 returns-then-fault-ne0 c =
     let a = c.args in
     let l = c.loop-i in
-    let e = part c.before in (
-      e ∙ sym (passed-found (gates_by a.many a.own.now a.barred.now) a.trace a.piece.now a.used.now a.count l.used l.row l.i l.invariant (omega arith) (λ z. c.if-fault-ne0.true (e ∙ z))),
-      λ z. absurd (c.if-fault-ne0.true z),
-    )
+    let e = part c.before in record { number_value = e ∙ sym (passed-found (gates_by a.many a.own.now a.barred.now) a.trace a.piece.now a.used.now a.count l.used l.row l.i l.invariant (omega arith) (λ z. c.if-fault-ne0.true (e ∙ z))); rows_value = λ z. absurd (c.if-fault-ne0.true z) }
 
 pub offset_bounds-piece-i-in-loop-i : goal.offset_bounds-piece-i-in-loop-i
 offset_bounds-piece-i-in-loop-i c = omega (arith, (good c).two)
@@ -63,34 +61,34 @@ pub offset_bounds-used-g : goal.offset_bounds-used-g
 offset_bounds-used-g c = omega (arith, (good c.before).fine, c.requires.0)
 
 pub bounds-used-g : goal.bounds-used-g
-bounds-used-g c = omega (arith, (good c.before).fine, c.requires.0)
+bounds-used-g c = omega (arith, (good c.before.before).fine, c.requires.0)
 
 pub overflow_add-row : goal.overflow_add-row
-overflow_add-row c = omega (arith, (good c.before).fine, c.requires.2)
+overflow_add-row c = omega (arith, (good c.before.before).fine, c.requires.2)
 
 pub overflow_add-i : goal.overflow_add-i
-overflow_add-i c = omega (arith, good c.before)
+overflow_add-i c = omega (arith, good c.before.before)
 
 pub overflow_add-i-in-loop-i : goal.overflow_add-i-in-loop-i
-overflow_add-i-in-loop-i c = omega (arith, good c.before)
+overflow_add-i-in-loop-i c = omega (arith, good c.before.before)
 
 pub offset_bounds-piece-i-in-loop-i-2 : goal.offset_bounds-piece-i-in-loop-i-2
-offset_bounds-piece-i-in-loop-i-2 c = omega (arith, good c.before)
+offset_bounds-piece-i-in-loop-i-2 c = omega (arith, good c.before.before)
 
 pub bounds-piece-i-in-loop-i : goal.bounds-piece-i-in-loop-i
-bounds-piece-i-in-loop-i c = omega (arith, good c.before.before)
+bounds-piece-i-in-loop-i c = omega (arith, good c.before.before.before)
 
 pub overflow_add-i-in-loop-i-2 : goal.overflow_add-i-in-loop-i-2
-overflow_add-i-in-loop-i-2 c = omega (arith, good c.before.before)
+overflow_add-i-in-loop-i-2 c = omega (arith, good c.before.before.before)
 
 pub loop-i-smaller : goal.loop-i-smaller
-loop-i-smaller c = omega (arith, good c.before.before)
+loop-i-smaller c = omega (arith, good c.before.before.before)
 
 pub loop-i-preserved : goal.loop-i-preserved
 loop-i-preserved c =
     let a = c.args in
     let l = c.loop-i in
-    let t = good c.before.before in
+    let t = good c.before.before.before in
     passed-next (gates_by a.many a.own.now a.barred.now) a.trace a.piece.now a.used.now a.count l.used l.row l.i l.invariant t.two t.fits t.fine
 
 pub returns : goal.returns
@@ -98,10 +96,7 @@ returns c =
     let a = c.args in
     let l = c.loop-i in
     let gs : Gates = gates_by a.many a.own.now a.barred.now in
-    let done : length a.piece.now ≤ l.i = c.loop-i-test.false in (
-      sym (passed_fine gs a.trace a.piece.now a.used.now a.count l.used l.row l.i l.invariant done),
-      λ _. (
+    let done : length a.piece.now ≤ l.i = c.loop-i-test.false in record { number_value = sym (passed_fine gs a.trace a.piece.now a.used.now a.count l.used l.row l.i l.invariant done); rows_value = λ _. (
         passed_count gs a.trace a.piece.now a.used.now a.count l.used l.row l.i l.invariant done,
         passed_marks gs a.trace a.piece.now a.used.now a.count l.used l.row l.i l.invariant done,
-      ),
-    )
+      ) }

@@ -2,7 +2,15 @@
 use Rattle.std.proofs.Common.{inl, inr, arith, ◌+◌, ◌-◌, ◌<◌, get_or}
 use Rattle.columns.proofs.Parts.{part_is, part_length}
 use Rattle.columns.proofs.StageLoop.{staging_begin, Front, staging_front, staging_next, staging_done}
+use Rattle.columns.proofs.rows.stage_rows.Goals.{Else-piece-i}
 use Rattle.columns.proofs.rows.stage_rows.Goals as goal
+
+-- what is known of the record at the front
+turn : (c : Else-piece-i) → let a = c.args in Front a.height a.bits.now a.steps.now a.piece.now c.loop-rows.i
+turn c =
+    let a = c.args in
+    let l = c.loop-rows in
+    staging_front a.height a.bits.now a.steps.now a.piece.now l.stage l.rows l.i l.invariant c.requires.1 c.if-piece-i.false
 
 pub loop-rows-init : goal.loop-rows-init
 loop-rows-init c = let a = c.args in staging_begin a.height a.bits.now a.steps.now a.piece.now a.stage.now c.requires.0.1
@@ -12,13 +20,6 @@ returns-then-piece-i c =
     let a = c.args in
     let l = c.loop-rows in
     staging_done a.height a.bits.now a.steps.now a.piece.now l.stage l.rows l.i l.invariant (inr c.if-piece-i.true)
-
--- what is known of the record at the front
-turn : (c : goal.Else-piece-i) → let a = c.before.before.before.before.args in Front a.height a.bits.now a.steps.now a.piece.now c.before.before.loop.i
-turn c =
-    let a = c.args in
-    let l = c.loop-rows in
-    staging_front a.height a.bits.now a.steps.now a.piece.now l.stage l.rows l.i l.invariant c.requires.1 c.if-piece-i.false
 
 pub offset_bounds-piece-i : goal.offset_bounds-piece-i
 offset_bounds-piece-i c = omega (arith, turn c)
@@ -48,31 +49,31 @@ pub offset_bounds-bits-g : goal.offset_bounds-bits-g
 offset_bounds-bits-g c = omega (arith, turn c.before.before)
 
 pub bounds-bits-g : goal.bounds-bits-g
-bounds-bits-g c = (turn c.before.before).known
+bounds-bits-g c = (turn c.before.before.before).known
 
 pub offset_bounds-steps-g : goal.offset_bounds-steps-g
-offset_bounds-steps-g c = omega (arith, turn c.before.before.before)
+offset_bounds-steps-g c = omega (arith, turn c.before.before.before.before)
 
 pub bounds-steps-g : goal.bounds-steps-g
-bounds-steps-g c = (turn c.before.before.before).known
+bounds-steps-g c = (turn c.before.before.before.before.before).known
 
 pub offset_bounds-piece-start : goal.offset_bounds-piece-start
-offset_bounds-piece-start c = omega (arith, turn c.before.before.before.before)
+offset_bounds-piece-start c = omega (arith, turn c.before.before.before.before.before.before)
 
 pub slice_bounds-stage_line-count : goal.slice_bounds-stage_line-count
-slice_bounds-stage_line-count c = omega (arith, turn c.before.before.before.before)
+slice_bounds-stage_line-count c = omega (arith, turn c.before.before.before.before.before.before)
 
 pub slice_bounds-stage_line-start : goal.slice_bounds-stage_line-start
-slice_bounds-stage_line-start c = omega (arith, turn c.before.before.before.before)
+slice_bounds-stage_line-start c = omega (arith, turn c.before.before.before.before.before.before)
 
 pub slice_bounds-stage_line-end : goal.slice_bounds-stage_line-end
-slice_bounds-stage_line-end c = omega (arith, turn c.before.before.before.before)
+slice_bounds-stage_line-end c = omega (arith, turn c.before.before.before.before.before.before)
 
 pub stage_line-requires : goal.stage_line-requires
 stage_line-requires c =
     let a = c.args in
     let l = c.loop-rows in
-    let t = turn c.before.before.before.before.before.before in
+    let t = turn c.before.before.before.before.before.before.before.before in
     let n = part_length a.piece.now (l.i + 2) (get_or a.piece.now (l.i + 1) 0) (omega (arith, t.two, t.fits)) in
     let h : l.rows < 32 = c.loop-rows-test.true in
     (omega (arith, h, c.requires.0.0), omega (arith, n, t.room), l.invariant.long)
@@ -89,7 +90,7 @@ loop-rows-preserved c =
     let l = c.loop-rows in
     let w = c.stage_line in
     let e = part_is a.piece.now (l.i + 2) (get_or a.piece.now (l.i + 1) 0) in
-    staging_next a.height a.bits.now a.steps.now a.piece.now l.stage l.rows l.i l.invariant (turn c.before.before.before.before.before.before.before) c.loop-rows-test.true _ w.ensures.1 c.requires.0.0
+    staging_next a.height a.bits.now a.steps.now a.piece.now l.stage l.rows l.i l.invariant (turn c.before.before.before.before.before.before.before.before.before) c.loop-rows-test.true _ w.ensures.1 c.requires.0.0
     (λ path q. rw (e, q.digits_are) at w.ensures.0)
 
 pub returns : goal.returns

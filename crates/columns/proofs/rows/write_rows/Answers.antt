@@ -3,7 +3,13 @@ use Rattle.std.proofs.Common.{refl, sym, arith, ℕ, ◌+◌, ◌-◌, ◌<◌, 
 use Rattle.columns.specs.Placed.{told_by, Stageable, Stages}
 use Rattle.columns.proofs.Parts.{rest_is}
 use Rattle.columns.proofs.StageLoop.{writing_begin, writing_room, writing_next, writing_lines}
+use Rattle.columns.proofs.rows.write_rows.Goals.{After-stage_rows-staged}
 use Rattle.columns.proofs.rows.write_rows.Goals as goal
+
+-- what is staged is the first of the records that are left
+first : (c : After-stage_rows-staged)
+    → Stages c.args.height c.args.gates.bits c.args.gates.steps (drop c.loop-i.i c.args.piece.now) c.stage_rows-staged.new.stage c.stage_rows-staged.result.next c.stage_rows-staged.result.rows
+first c = rw (rest_is c.args.piece.now c.loop-i.i) at c.stage_rows-staged.ensures
 
 record Turn (len trace i row next rows : ℕ) : Type 0 where
   pub some : 0 < next
@@ -11,6 +17,21 @@ record Turn (len trace i row next rows : ℕ) : Type 0 where
   pub low : len ≤ 18446744073709551615
   pub few : rows ≤ 32
   pub room : row + rows ≤ trace
+
+turn : (c : After-stage_rows-staged) → Turn (length c.args.piece.now) c.args.trace c.loop-i.i c.loop-i.row c.stage_rows-staged.result.next c.stage_rows-staged.result.rows
+turn c =
+    let a = c.args in
+    let l = c.loop-i in
+    let p = first c in
+    let h : l.i < length a.piece.now = c.loop-i-test.true in
+    let n = length-drop l.i a.piece.now in
+    record {
+      some = (p.some (omega (arith, h, n))).0;
+      within = omega (arith, p.within, n, h);
+      low = omega arith;
+      few = p.few;
+      room = writing_room a.height a.trace a.count a.piece.now a.constants.now a.gates.bits a.gates.steps l.constants l.stage l.row l.i l.invariant _ _ _ p (told_by a.gates) c.requires.fits.1 h;
+    }
 
 pub loop-i-init : goal.loop-i-init
 loop-i-init c =
@@ -30,27 +51,7 @@ stage_rows-staged-requires c =
       room = c.requires.fits.0;
       no_fault = l.invariant.fine (told_by a.gates) c.requires.fits.1;
     } in
-    ((c.requires.trace_bound.1, l.invariant.staged), rw (rest_is a.piece.now l.i) q)
-
--- what is staged is the first of the records that are left
-first : (c : goal.After-stage_rows-staged)
-    → Stages c.args.height c.args.gates.bits c.args.gates.steps (drop c.loop-i.i c.args.piece.now) c.stage_rows-staged.new.stage c.stage_rows-staged.result.next c.stage_rows-staged.result.rows
-first c = rw (rest_is c.args.piece.now c.loop-i.i) at c.stage_rows-staged.ensures
-
-turn : (c : goal.After-stage_rows-staged) → Turn (length c.args.piece.now) c.args.trace c.loop-i.i c.loop-i.row c.stage_rows-staged.result.next c.stage_rows-staged.result.rows
-turn c =
-    let a = c.args in
-    let l = c.loop-i in
-    let p = first c in
-    let h : l.i < length a.piece.now = c.loop-i-test.true in
-    let n = length-drop l.i a.piece.now in
-    record {
-      some = (p.some (omega (arith, h, n))).0;
-      within = omega (arith, p.within, n, h);
-      low = omega arith;
-      few = p.few;
-      room = writing_room a.height a.trace a.count a.piece.now a.constants.now a.gates.bits a.gates.steps l.constants l.stage l.row l.i l.invariant _ _ _ p (told_by a.gates) c.requires.fits.1 h;
-    }
+    record { height_bound = (c.requires.trace_bound.1, l.invariant.staged); stageable = rw (rest_is a.piece.now l.i) q }
 
 pub slice_bounds-write_lines-end : goal.slice_bounds-write_lines-end
 slice_bounds-write_lines-end c = sym (first c.before).long
@@ -59,7 +60,7 @@ pub write_lines-requires : goal.write_lines-requires
 write_lines-requires c =
     let l = c.loop-i in
     let t = turn c.before.before in
-    ((c.requires.trace_bound.1, omega arith, c.requires.trace_bound.0, t.room), (omega (arith, t.few, (first c.before.before).long), omega (arith, c.requires.trace_bound.3, l.invariant.long)))
+    record { width_le_step = (c.requires.trace_bound.1, omega arith, c.requires.trace_bound.0, t.room); many_in_bounds = (omega (arith, t.few, (first c.before.before).long), omega (arith, c.requires.trace_bound.3, l.invariant.long)) }
 
 pub overflow_add-row : goal.overflow_add-row
 overflow_add-row c = omega (arith, turn c.before.before.before.before.before.before, c.requires.trace_bound.0)

@@ -3,13 +3,14 @@ use Rattle.std.proofs.Common.{◌≡◌, sym, ◌∙◌, eq-eqb, ne_eqb}
 use Rattle.base.specs.Pick.{pick_yes, pick_no}
 use Rattle.tree.specs.Plan.{gate_rows_answer, plan_fault}
 use Rattle.columns.proofs.RowLoop.{gates-number}
+use Rattle.columns.proofs.sections.contents_number.Goals.{After-parts_rows-gates, Else-gates-ne0}
 use Rattle.columns.proofs.sections.contents_number.Goals as goal
 
 -- the gates' answer is the plan's, and its number the plan's test
-answer-is : (c : goal.After-parts_rows-gates) → c.parts_rows-gates.result ≡ gate_rows_answer c.args.t1
+answer-is : (c : After-parts_rows-gates) → c.parts_rows-gates.result ≡ gate_rows_answer c.args.t1
 answer-is c = c.parts_rows-gates.ensures ∙ rw c.outline.ensures
 
-no_fault : (c : goal.Else-gates-ne0) → plan_fault c.before.before.before.before.before.before.before.before.before.before.before.before.before.args.t1 ≡ 0
+no_fault : (c : Else-gates-ne0) → plan_fault c.args.t1 ≡ 0
 no_fault c = (gates-number c.args.t1 c.parts_rows-gates.result (answer-is c.before.before)).0 c.if-gates-ne0.false
 
 pub returns-then-gates-ne0 : goal.returns-then-gates-ne0

@@ -8,10 +8,11 @@ use Rattle.columns.specs.GivenLaws.{small}
 use Rattle.columns.specs.Intake.{setting_of}
 use Rattle.columns.specs.Sections.{pieces_fault, last_tests, after_pieces, contents_number}
 use Rattle.columns.specs.SectionsLaws.{or_assoc, last_same}
+use Rattle.columns.proofs.sections.contents_of.Goals.{Start}
 use Rattle.columns.proofs.sections.contents_of.Goals as goal
 
 -- labels and sections together, then the last tests
-parted : (s : goal.Start) → let a = s.args in let x = setting_of a.plan in
+parted : (s : Start) → let a = s.args in let x = setting_of a.plan in
     contents_number x a.rows.now a.s-words.now a.cells.now a.tables.now ≡ or_number (or_number x.labelled (pieces_fault x a.rows.now a.s-words.now a.cells.now a.tables.now)) (last_tests x (after_pieces a.rows.now a.s-words.now a.cells.now a.tables.now))
 unfolding contents_number
 parted s = sym (or_assoc _ _ _)

@@ -6,10 +6,16 @@ use Rattle.pieces.specs.Records.{tables_of}
 use Rattle.pieces.specs.Tables.{tables_fault}
 use Rattle.columns.specs.Stacked.{stack}
 use Rattle.tree.specs.SoundLaws.{Sound, sound}
+use Rattle.columns.proofs.sections.later_fault.Goals.{After-tables_fault, Start}
 use Rattle.columns.proofs.sections.later_fault.Goals as goal
 
-fine : (s : goal.Start) → Sound s.args.plan
+fine : (s : Start) → Sound s.args.plan
 fine s = sound s.args.plan s.pre.0
+
+-- the tables' number: mode and width are the plan's
+in_tables : (c : After-tables_fault) → let a = c.args in
+    c.tables_fault.result ≡ tables_fault (ltb 0 (mode_of a.plan.lookup)) (width_of a.plan.lookup) a.plan.trace (stack 0 0) (tables_of a.tables.now)
+in_tables c = c.tables_fault.ensures ∙ rw (c.mode.ensures, c.lookup_width-width.ensures)
 
 pub overflow_mul-plan : goal.overflow_mul-plan
 overflow_mul-plan c = omega (arith, mul-le-mul (fine c).special c.pre.1)
@@ -37,11 +43,6 @@ pub tables_fault-requires : goal.tables_fault-requires
 tables_fault-requires c =
     let w = fine c.before.before.before.before.before.before.before.before.before.before.before in
     (omega (arith, w.width, c.lookup_width-width.ensures), omega arith, omega arith, w.ranges.long)
-
--- the tables' number: mode and width are the plan's
-in_tables : (c : goal.After-tables_fault) → let a = c.args in
-    c.tables_fault.result ≡ tables_fault (ltb 0 (mode_of a.plan.lookup)) (width_of a.plan.lookup) a.plan.trace (stack 0 0) (tables_of a.tables.now)
-in_tables c = c.tables_fault.ensures ∙ rw (c.mode.ensures, c.lookup_width-width.ensures)
 
 pub returns : goal.returns
 returns c =

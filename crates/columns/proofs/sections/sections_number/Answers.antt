@@ -8,14 +8,19 @@ use Rattle.columns.specs.Intake.{setting_of, store_of}
 use Rattle.columns.specs.IntakeLaws.{short_room, long_room}
 use Rattle.columns.specs.SectionsLaws.{number_19, number_10, number_contents}
 use Rattle.columns.proofs.RowLoop.{gates-number}
+use Rattle.columns.proofs.sections.sections_number.Goals.{After-parts_rows-gates, After-room_number-short, Else-gates-ne0}
 use Rattle.columns.proofs.sections.sections_number.Goals as goal
 
 -- the gates' answer is the plan's, and its number the plan's test
-answer-is : (c : goal.After-parts_rows-gates) → c.parts_rows-gates.result ≡ gate_rows_answer c.args.t1
+answer-is : (c : After-parts_rows-gates) → c.parts_rows-gates.result ≡ gate_rows_answer c.args.t1
 answer-is c = c.parts_rows-gates.ensures ∙ rw c.outline-outline.ensures
 
-no_fault : (c : goal.Else-gates-ne0) → plan_fault c.before.before.before.before.before.before.before.before.before.before.before.before.before.before.before.before.before.args.t1 ≡ 0
+no_fault : (c : Else-gates-ne0) → plan_fault c.args.t1 ≡ 0
 no_fault c = (gates-number c.args.t1 c.parts_rows-gates.result (answer-is c.before.before)).0 c.if-gates-ne0.false
+
+-- the outline is the plan's
+short-is : (c : After-room_number-short) → let a = c.args in c.room_number-short.result ≡ pick (room_to_open (setting_of a.t1) (store_of a.constants.now a.copies.now a.scratch.now a.tables.now)) 0 10
+short-is c = let q = c.args.t1 in c.room_number-short.ensures q.gates q.nodes ∙ rw c.outline-outline.ensures
 
 pub returns-then-gates-ne0 : goal.returns-then-gates-ne0
 returns-then-gates-ne0 c =
@@ -24,10 +29,6 @@ returns-then-gates-ne0 c =
 
 pub room_number-short-requires : goal.room_number-short-requires
 room_number-short-requires c = let q = c.args.t1 in rw c.outline-outline.ensures (small (outline_of q) q.gates q.nodes (no_fault c))
-
--- the outline is the plan's
-short-is : (c : goal.After-room_number-short) → let a = c.args in c.room_number-short.result ≡ pick (room_to_open (setting_of a.t1) (store_of a.constants.now a.copies.now a.scratch.now a.tables.now)) 0 10
-short-is c = let q = c.args.t1 in c.room_number-short.ensures q.gates q.nodes ∙ rw c.outline-outline.ensures
 
 pub returns-then-short-ne0 : goal.returns-then-short-ne0
 returns-then-short-ne0 c =

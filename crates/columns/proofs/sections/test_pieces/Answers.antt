@@ -8,44 +8,45 @@ use Rattle.pieces.specs.Rows.{gates_of, rows_fault}
 use Rattle.tree.specs.SoundLaws.{Sound, sound}
 use Rattle.columns.specs.Intake.{setting_of}
 use Rattle.columns.proofs.RowLoop.{GatesOf, gates-of, gates_fault}
+use Rattle.columns.proofs.sections.test_pieces.Goals.{After-representatives-unlabelled, After-test_rows-tested, Else-unlabelled-ne0, Start}
 use Rattle.columns.proofs.sections.test_pieces.Goals as goal
+
+fine : (s : Start) → Sound s.args.plan
+fine s = sound s.args.plan s.pre.0
+
+told : (s : Start) → GatesOf s.args.plan s.args.gates
+told s = gates-of s.args.plan s.args.gates s.pre.0 s.pre.1
 
 -- within the ranges the labels' number is the search's
 representatives-are : (n k : ℕ) → ranges_fit n k ≡ true → representatives_number n k ≡ search_number n k
 unfolding representatives_number
 representatives-are n k r = rw r
 
-fine : (s : goal.Start) → Sound s.args.plan
-fine s = sound s.args.plan s.pre.0
-
-told : (s : goal.Start) → GatesOf s.args.plan s.args.gates
-told s = gates-of s.args.plan s.args.gates s.pre.0 s.pre.1
-
-labelled : (c : goal.After-representatives-unlabelled) → c.representatives-unlabelled.result.number ≡ (setting_of c.args.plan).labelled
+labelled : (c : After-representatives-unlabelled) → c.representatives-unlabelled.result.number ≡ (setting_of c.args.plan).labelled
 labelled c =
     c.representatives-unlabelled.ensures.number_value ∙ representatives-are c.args.plan.trace c.args.plan.copy (fine c).ranges_fit_too
 
-pub returns-then-unlabelled-ne0 : goal.returns-then-unlabelled-ne0
-returns-then-unlabelled-ne0 c =
-    let e = labelled c.before in
-    (e ∙ sym (first_found _ _ (λ z. c.if-unlabelled-ne0.taken (e ∙ z))), λ z. absurd (c.if-unlabelled-ne0.taken z))
-
-pub test_rows-tested-requires : goal.test_rows-tested-requires
-test_rows-tested-requires c = (omega (arith, (fine c).few_gates, (told c).alike.many_same), omega arith, (fine c).ranges.long)
-
 -- the rows' number: the gates' constants are the plan's
-in_rows : (c : goal.After-test_rows-tested) → let a = c.args in c.test_rows-tested.result.number ≡ rows_fault (gates_of (setting_of a.plan)) a.plan.trace 0 (rows_of a.rows.now)
+in_rows : (c : After-test_rows-tested) → let a = c.args in c.test_rows-tested.result.number ≡ rows_fault (gates_of (setting_of a.plan)) a.plan.trace 0 (rows_of a.rows.now)
 in_rows c =
     c.test_rows-tested.ensures.number_value ∙ gates_fault c.args.plan c.args.gates (told c) c.args.plan.trace 0 (rows_of c.args.rows.now)
 
 -- the labels are not refused
-unrefused : (c : goal.Else-unlabelled-ne0) → (setting_of c.before.before.before.before.before.before.args.plan).labelled ≡ 0
+unrefused : (c : Else-unlabelled-ne0) → (setting_of c.args.plan).labelled ≡ 0
 unrefused c = sym (labelled c.before) ∙ c.if-unlabelled-ne0.left
+
+pub returns-then-unlabelled-ne0 : goal.returns-then-unlabelled-ne0
+returns-then-unlabelled-ne0 c =
+    let e = labelled c.before in
+    record { number_value = e ∙ sym (first_found _ _ (λ z. c.if-unlabelled-ne0.taken (e ∙ z))); rows_value = λ z. absurd (c.if-unlabelled-ne0.taken z) }
+
+pub test_rows-tested-requires : goal.test_rows-tested-requires
+test_rows-tested-requires c = (omega (arith, (fine c).few_gates, (told c).alike.many_same), omega arith, (fine c).ranges.long)
 
 pub returns-then-tested-ne0 : goal.returns-then-tested-ne0
 returns-then-tested-ne0 c =
     let e = in_rows c.before.before in
-    (e ∙ sym (first-none _ _ (unrefused c.before.before.before.before.before.before.before.before) ∙ first_found _ _ (λ z. c.if-tested-ne0.taken (e ∙ z))), λ z. absurd (c.if-tested-ne0.taken z))
+    record { number_value = e ∙ sym (first-none _ _ (unrefused c.before.before.before.before.before.before.before.before) ∙ first_found _ _ (λ z. c.if-tested-ne0.taken (e ∙ z))); rows_value = λ z. absurd (c.if-tested-ne0.taken z) }
 
 pub later_fault-requires : goal.later_fault-requires
 later_fault-requires c = (c.pre.0, c.pre.2)
@@ -53,4 +54,4 @@ later_fault-requires c = (c.pre.0, c.pre.2)
 pub returns : goal.returns
 returns c =
     let e = c.later_fault.ensures in
-    (e ∙ sym (first-none _ _ (unrefused c.before.before.before.before.before.before.before.before.before) ∙ first-none _ _ (sym (in_rows c.before.before.before) ∙ c.if-tested-ne0.left)), λ z. c.test_rows-tested.ensures.rows_value c.if-tested-ne0.left)
+    record { number_value = e ∙ sym (first-none _ _ (unrefused c.before.before.before.before.before.before.before.before.before) ∙ first-none _ _ (sym (in_rows c.before.before.before) ∙ c.if-tested-ne0.left)); rows_value = λ z. c.test_rows-tested.ensures.rows_value c.if-tested-ne0.left }

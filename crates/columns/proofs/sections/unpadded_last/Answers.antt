@@ -5,10 +5,25 @@ use Rattle.base.specs.Pick.{both, pick_yes, pick_no}
 use Rattle.pieces.specs.Finishing.{all_used}
 use Rattle.columns.specs.Sections.{unpadded_last}
 use Rattle.tree.specs.SoundLaws.{Sound, sound}
+use Rattle.columns.proofs.sections.unpadded_last.Goals.{Else-cells-plan, Joined-gate, Start}
 use Rattle.columns.proofs.sections.unpadded_last.Goals as goal
 
-fine : (s : goal.Start) → Sound s.args.plan
+fine : (s : Start) → Sound s.args.plan
 fine s = sound s.args.plan s.pre.0
+
+-- the counts are those of columns of the given height
+counted : (c : Else-cells-plan) → let a = c.args in both (eqb a.s-words (a.plan.specialised * a.height)) (eqb a.cells (a.plan.copy * a.height)) ≡ true
+counted c =
+    let a = c.args in
+    let m = eqb a.cells (a.plan.copy * a.height) in
+    ap (λ (t : Bool). both t m) (eq-eqb a.s-words (a.plan.specialised * a.height) c.if-s_words-plan.left) ∙ eq-eqb a.cells (a.plan.copy * a.height) c.if-cells-plan.left
+
+-- the given gate is marked, where there is a mark for it
+marks : (c : Joined-gate) → let a = c.args in c.if-gate.used ≡ set a.t6 a.gate 1
+marks c =
+    let a = c.args in
+    let l : length a.t6 ≡ 128 = search rules in
+    ⊎_elim (λ w. w.1) (λ w. w.1 ∙ sym (set_out a.t6 a.gate 1 (omega (arith, w.0.left, l)))) c.if-gate.came
 
 pub overflow_mul-plan : goal.overflow_mul-plan
 overflow_mul-plan c = omega (arith, mul-le-mul (fine c).special c.pre.1)
@@ -29,20 +44,6 @@ returns-then-cells-plan c =
     let a = c.args in
     let m = eqb a.cells (a.plan.copy * a.height) in
     sym (pick_no _ _ 16 (ap (λ (t : Bool). both t m) (eq-eqb a.s-words (a.plan.specialised * a.height) c.if-s_words-plan.left) ∙ ne_eqb a.cells (a.plan.copy * a.height) c.if-cells-plan.taken))
-
--- the counts are those of columns of the given height
-counted : (c : goal.Else-cells-plan) → let a = c.before.before.before.before.args in both (eqb a.s-words (a.plan.specialised * a.height)) (eqb a.cells (a.plan.copy * a.height)) ≡ true
-counted c =
-    let a = c.args in
-    let m = eqb a.cells (a.plan.copy * a.height) in
-    ap (λ (t : Bool). both t m) (eq-eqb a.s-words (a.plan.specialised * a.height) c.if-s_words-plan.left) ∙ eq-eqb a.cells (a.plan.copy * a.height) c.if-cells-plan.left
-
--- the given gate is marked, where there is a mark for it
-marks : (c : goal.Joined-gate) → let a = c.before.before.before.before.before.args in c.if3.used ≡ set a.t6 a.gate 1
-marks c =
-    let a = c.args in
-    let l : length a.t6 ≡ 128 = search rules in
-    ⊎_elim (λ w. w.1) (λ w. w.1 ∙ sym (set_out a.t6 a.gate 1 (omega (arith, w.0.left, l)))) c.if-gate.came
 
 pub all_used-requires : goal.all_used-requires
 all_used-requires c = (fine c.before.before.before.before.before.before).few_gates

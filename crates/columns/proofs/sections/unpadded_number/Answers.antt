@@ -12,14 +12,23 @@ use Rattle.pieces.specs.Rows.{marked}
 use Rattle.columns.specs.Intake.{setting_of}
 use Rattle.columns.specs.Sections.{pieces_under, unpadded_last, unpadded_number, unpadded_call}
 use Rattle.columns.specs.SectionsLaws.{or_assoc}
+use Rattle.columns.proofs.sections.unpadded_number.Goals.{After-parts_rows-gates, Else-gates-ne0, Else-height-gt-LONGEST_TRACE}
 use Rattle.columns.proofs.sections.unpadded_number.Goals as goal
 
 -- the gates' answer is the plan's, and its number the plan's test
-answer-is : (c : goal.After-parts_rows-gates) → c.parts_rows-gates.result ≡ gate_rows_answer c.args.t1
+answer-is : (c : After-parts_rows-gates) → c.parts_rows-gates.result ≡ gate_rows_answer c.args.t1
 answer-is c = c.parts_rows-gates.ensures ∙ rw c.outline.ensures
 
-no_fault : (c : goal.Else-gates-ne0) → plan_fault c.before.before.before.before.before.before.before.before.before.before.before.before.before.args.t1 ≡ 0
+no_fault : (c : Else-gates-ne0) → plan_fault c.args.t1 ≡ 0
 no_fault c = (gates-number c.args.t1 c.parts_rows-gates.result (answer-is c.before.before)).0 c.if-gates-ne0.false
+
+-- past 19 and 1: labels and sections together, then the last tests
+parted : (c : Else-height-gt-LONGEST_TRACE) → let a = c.args in let x = setting_of a.t1 in
+    unpadded_call x a.height a.gate a.rows.now a.s-words.now a.cells.now a.tables.now ≡ or_number (or_number x.labelled (pieces_under x a.height a.rows.now a.s-words.now a.cells.now a.tables.now)) (unpadded_last x a.height a.gate (length a.s-words.now) (length a.cells.now) (marked open_state.used (rows_of a.rows.now)))
+unfolding unpadded_number
+parted c =
+    let a = c.args in
+    pick_yes _ _ 19 (eq-eqb (plan_fault a.t1) 0 (no_fault c.before)) ∙ pick_yes _ _ 1 (le-leb a.height longest_trace c.if-height-gt-LONGEST_TRACE.false) ∙ sym (or_assoc _ _ _)
 
 pub returns-then-gates-ne0 : goal.returns-then-gates-ne0
 returns-then-gates-ne0 c =
@@ -33,14 +42,6 @@ returns-then-height-gt-LONGEST_TRACE c =
 
 pub test_pieces-tested-requires : goal.test_pieces-tested-requires
 test_pieces-tested-requires c = (no_fault c.before.before, answer-is c.before.before.before.before, c.if-height-gt-LONGEST_TRACE.false)
-
--- past 19 and 1: labels and sections together, then the last tests
-parted : (c : goal.Else-height-gt-LONGEST_TRACE) → let a = c.before.before.before.before.before.before.before.before.before.before.before.before.before.before.args in let x = setting_of a.t1 in
-    unpadded_call x a.height a.gate a.rows.now a.s-words.now a.cells.now a.tables.now ≡ or_number (or_number x.labelled (pieces_under x a.height a.rows.now a.s-words.now a.cells.now a.tables.now)) (unpadded_last x a.height a.gate (length a.s-words.now) (length a.cells.now) (marked open_state.used (rows_of a.rows.now)))
-unfolding unpadded_number
-parted c =
-    let a = c.args in
-    pick_yes _ _ 19 (eq-eqb (plan_fault a.t1) 0 (no_fault c.before)) ∙ pick_yes _ _ 1 (le-leb a.height longest_trace c.if-height-gt-LONGEST_TRACE.false) ∙ sym (or_assoc _ _ _)
 
 pub returns-then-tested-ne0 : goal.returns-then-tested-ne0
 returns-then-tested-ne0 c =

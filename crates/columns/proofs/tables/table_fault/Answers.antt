@@ -7,7 +7,28 @@ use Rattle.pieces.specs.Tables.{table_fault}
 use Rattle.pieces.specs.RecordLaws.{front_short, front_cut, front_whole}
 use Rattle.pieces.specs.FaultLaws.{table-cut, table_mode, table-front, table_width, table-count, table_past, table_large, table_good}
 use Rattle.columns.specs.Stacked.{stack}
+use Rattle.columns.proofs.tables.table_fault.Goals.{After-all_below, Else-trace-high, Else-words-size}
 use Rattle.columns.proofs.tables.table_fault.Goals as goal
+
+-- a table that fits the trace has few words
+few_words : (c : Else-trace-high) → c.args.width * get_or c.args.words.now 1 0 ≤ 16 * 65536
+few_words c =
+    let n : get_or c.args.words.now 1 0 ≤ 65536 = omega (arith, c.if-trace-high.false, c.requires.2) in
+    mul-le-mul c.requires.0 n
+
+-- a record that is whole: its words are what `all_below` was asked of
+read : (c : Else-words-size) → front table_size c.args.words.now
+    ≡ whole (get_or c.args.words.now 0 0) (get_or c.args.words.now 1 0) (take (get_or c.args.words.now 0 0 * get_or c.args.words.now 1 0) (drop 2 c.args.words.now))
+read c =
+    let w : get_or c.args.words.now 0 0 ≡ c.args.width = c.if-words-width.false in
+    front_whole table_size c.args.words.now c.if-words-lt2.false (rw w c.if-words-size.false)
+
+below : (c : After-all_below) → c.all_below.result ≡ all_below p (take (get_or c.args.words.now 0 0 * get_or c.args.words.now 1 0) (drop 2 c.args.words.now))
+below c =
+    let w : get_or c.args.words.now 0 0 ≡ c.args.width = c.if-words-width.false in
+    let n = c.args.width * get_or c.args.words.now 1 0 in
+    let q : 2 + n - 2 ≡ n = omega arith in
+    c.all_below.ensures ∙ ap (λ (k : ℕ). all_below p (take k (drop 2 c.args.words.now))) (q ∙ ap (λ (k : ℕ). k * get_or c.args.words.now 1 0) (sym w))
 
 pub returns-then-words-lt2 : goal.returns-then-words-lt2
 returns-then-words-lt2 c =
@@ -29,12 +50,6 @@ returns-then-trace-high c =
     let a = c.args in
     sym (table-front a.lookup a.width a.trace (stack a.count a.high) a.words.now c.if-words-lt2.false (λ cs. table_past a.lookup a.width a.trace (stack a.count a.high) (get_or a.words.now 0 0) (get_or a.words.now 1 0) cs c.if-lookup.true c.if-words-width.false c.if-count-ge-MOST_TABLES.false (omega (arith, c.if-trace-high.true, c.requires.1))))
 
--- a table that fits the trace has few words
-few_words : (c : goal.Else-trace-high) → c.before.before.before.before.before.before.before.before.args.width * get_or c.before.before.before.before.before.before.before.before.args.words.now 1 0 ≤ 16 * 65536
-few_words c =
-    let n : get_or c.args.words.now 1 0 ≤ 65536 = omega (arith, c.if-trace-high.false, c.requires.2) in
-    mul-le-mul c.requires.0 n
-
 pub overflow_mul-size : goal.overflow_mul-size
 overflow_mul-size c = omega (arith, few_words c)
 
@@ -44,20 +59,6 @@ returns-then-words-size c =
     let w : get_or a.words.now 0 0 ≡ a.width = c.if-words-width.false in
     let k : length a.words.now - 2 < get_or a.words.now 0 0 * get_or a.words.now 1 0 = rw w c.if-words-size.true in
     sym (ap (table_fault a.lookup a.width a.trace (stack a.count a.high)) (front_cut table_size a.words.now c.if-words-lt2.false k) ∙ table-cut a.lookup a.width a.trace (stack a.count a.high))
-
--- a record that is whole: its words are what `all_below` was asked of
-read : (c : goal.Else-words-size) → front table_size c.before.before.before.before.before.before.before.before.before.args.words.now
-    ≡ whole (get_or c.before.before.before.before.before.before.before.before.before.args.words.now 0 0) (get_or c.before.before.before.before.before.before.before.before.before.args.words.now 1 0) (take (get_or c.before.before.before.before.before.before.before.before.before.args.words.now 0 0 * get_or c.before.before.before.before.before.before.before.before.before.args.words.now 1 0) (drop 2 c.before.before.before.before.before.before.before.before.before.args.words.now))
-read c =
-    let w : get_or c.args.words.now 0 0 ≡ c.args.width = c.if-words-width.false in
-    front_whole table_size c.args.words.now c.if-words-lt2.false (rw w c.if-words-size.false)
-
-below : (c : goal.After-all_below) → c.all_below.result ≡ all_below p (take (get_or c.args.words.now 0 0 * get_or c.args.words.now 1 0) (drop 2 c.args.words.now))
-below c =
-    let w : get_or c.args.words.now 0 0 ≡ c.args.width = c.if-words-width.false in
-    let n = c.args.width * get_or c.args.words.now 1 0 in
-    let q : 2 + n - 2 ≡ n = omega arith in
-    c.all_below.ensures ∙ ap (λ (k : ℕ). all_below p (take k (drop 2 c.args.words.now))) (q ∙ ap (λ (k : ℕ). k * get_or c.args.words.now 1 0) (sym w))
 
 pub returns-then-all_below : goal.returns-then-all_below
 returns-then-all_below c =

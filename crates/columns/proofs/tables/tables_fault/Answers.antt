@@ -7,7 +7,15 @@ use Rattle.pieces.specs.RecordLaws.{Uncut, uncut, Looking, looking_begin, lookin
 use Rattle.pieces.specs.FaultLaws.{table-cut, table_fine}
 use Rattle.columns.specs.Stacked.{stack}
 use Rattle.columns.proofs.Parts.{rest_is}
+use Rattle.columns.proofs.tables.tables_fault.Goals.{After-table_fault-fault, Else-fault-ne0}
 use Rattle.columns.proofs.tables.tables_fault.Goals as goal
+
+-- the part that is handed over is the words from i on
+part : (c : After-table_fault-fault) → c.table_fault-fault.result
+    ≡ table_fault c.args.lookup c.args.width c.args.trace (stack c.loop-i.t c.loop-i.h) (front table_size (drop c.loop-i.i c.args.piece.now))
+part c =
+    c.table_fault-fault.ensures
+    ∙ ap (λ (l : List ℕ). table_fault c.args.lookup c.args.width c.args.trace (stack c.loop-i.t c.loop-i.h) (front table_size l)) (rest_is c.args.piece.now c.loop-i.i)
 
 -- a record without a fault is whole, of the width, and fits
 record Good (lookup : Bool) (width trace t h i : ℕ) (ws : List ℕ) : Type 0 where
@@ -18,20 +26,7 @@ record Good (lookup : Bool) (width trace t h i : ℕ) (ws : List ℕ) : Type 0 w
   pub room : h + get_or ws (i + 1) 0 ≤ trace
   pub end : i + 2 + width * get_or ws (i + 1) 0 ≤ length ws
 
-pub loop-i-init : goal.loop-i-init
-loop-i-init c = let a = c.args in (c.requires.1, c.requires.2, looking_begin table_size (table_fault a.lookup a.width a.trace) stack_next a.piece.now (stack a.count a.high))
-
-pub table_fault-fault-requires : goal.table_fault-fault-requires
-table_fault-fault-requires c = (c.requires.0, c.loop-i.invariant.1, c.requires.3)
-
--- the part that is handed over is the words from i on
-part : (c : goal.After-table_fault-fault) → c.table_fault-fault.result
-    ≡ table_fault c.args.lookup c.args.width c.args.trace (stack c.loop-i.t c.loop-i.h) (front table_size (drop c.loop-i.i c.args.piece.now))
-part c =
-    c.table_fault-fault.ensures
-    ∙ ap (λ (l : List ℕ). table_fault c.args.lookup c.args.width c.args.trace (stack c.loop-i.t c.loop-i.h) (front table_size l)) (rest_is c.args.piece.now c.loop-i.i)
-
-good : (c : goal.Else-fault-ne0) → Good c.before.before.before.before.before.before.args.lookup c.before.before.before.before.before.before.args.width c.before.before.before.before.before.before.args.trace c.before.before.before.before.loop.t c.before.before.before.before.loop.h c.before.before.before.before.loop.i c.before.before.before.before.before.before.args.piece.now
+good : (c : Else-fault-ne0) → Good c.args.lookup c.args.width c.args.trace c.loop-i.t c.loop-i.h c.loop-i.i c.args.piece.now
 good c =
     let a = c.args in
     let s = stack c.loop-i.t c.loop-i.h in
@@ -43,6 +38,12 @@ good c =
     let f = table_fine a.lookup a.width a.trace s (get_or ws i 0) (get_or ws (i + 1) 0) _ (ap (table_fault a.lookup a.width a.trace s) (sym u.is) ∙ e) in
     let w : get_or ws i 0 * get_or ws (i + 1) 0 ≡ a.width * get_or ws (i + 1) 0 = ap (λ (k : ℕ). k * get_or ws (i + 1) 0) f.wide in
     record { clean = e; whole-record = u; wide = f.wide; few = f.few; room = f.room; end = omega (arith, u.two, u.fits, w) }
+
+pub loop-i-init : goal.loop-i-init
+loop-i-init c = let a = c.args in (c.requires.1, c.requires.2, looking_begin table_size (table_fault a.lookup a.width a.trace) stack_next a.piece.now (stack a.count a.high))
+
+pub table_fault-fault-requires : goal.table_fault-fault-requires
+table_fault-fault-requires c = (c.requires.0, c.loop-i.invariant.1, c.requires.3)
 
 pub returns-then-fault-ne0 : goal.returns-then-fault-ne0
 unfolding tables_of

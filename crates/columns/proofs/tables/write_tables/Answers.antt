@@ -7,6 +7,7 @@ use Rattle.pieces.specs.FaultLaws.{table-cut, table_fine}
 use Rattle.columns.specs.Stacked.{stack}
 use Rattle.columns.proofs.Parts.{part_is, part_length}
 use Rattle.columns.proofs.TableLoop.{stacking_begin, stacking_next, stacking_count, stacking_high, stacking_lines}
+use Rattle.columns.proofs.tables.write_tables.Goals.{In-loop-i}
 use Rattle.columns.proofs.tables.write_tables.Goals as goal
 
 -- what is known of the record at the front
@@ -17,10 +18,7 @@ record Turn (width trace t h i : ℕ) (piece : List ℕ) : Type 0 where
   pub room : h + get_or piece (i + 1) 0 ≤ trace
   pub end : i + 2 + width * get_or piece (i + 1) 0 ≤ length piece
 
-pub loop-i-init : goal.loop-i-init
-loop-i-init c = let a = c.args in stacking_begin a.width a.trace a.count a.high a.piece.now a.tables.now c.requires.piece_value
-
-front-record : (c : goal.In-loop-i) → Going table_size (table_fault true c.args.width c.args.trace) stack_next c.args.piece.now (stack c.loop-i.t c.loop-i.h) c.loop-i.i c.loop-i.invariant.left
+front-record : (c : In-loop-i) → Going table_size (table_fault true c.args.width c.args.trace) stack_next c.args.piece.now (stack c.loop-i.t c.loop-i.h) c.loop-i.i c.loop-i.invariant.left
 front-record c =
     let a = c.args in
     let l = c.loop-i in
@@ -28,7 +26,7 @@ front-record c =
     let bad : table_fault true a.width a.trace s cut ≢ 0 = λ z. omega (arith, z, table-cut true a.width a.trace s) in
     going table_size (table_fault true a.width a.trace) stack_next a.piece.now s l.i l.invariant.left l.invariant.rest bad l.invariant.fine c.loop-i-test.true
 
-turn : (c : goal.In-loop-i) → Turn c.args.width c.args.trace c.loop-i.t c.loop-i.h c.loop-i.i c.args.piece.now
+turn : (c : In-loop-i) → Turn c.args.width c.args.trace c.loop-i.t c.loop-i.h c.loop-i.i c.args.piece.now
 turn c =
     let a = c.args in
     let l = c.loop-i in
@@ -37,6 +35,9 @@ turn c =
     let f = table_fine true a.width a.trace (stack l.t l.h) (get_or ws l.i 0) (get_or ws (l.i + 1) 0) _ g.good in
     let w : get_or ws l.i 0 * get_or ws (l.i + 1) 0 ≡ a.width * get_or ws (l.i + 1) 0 = ap (λ (k : ℕ). k * get_or ws (l.i + 1) 0) f.wide in
     record { two = g.two; wide = f.wide; few = f.few; room = f.room; end = omega (arith, g.two, g.fits, w) }
+
+pub loop-i-init : goal.loop-i-init
+loop-i-init c = let a = c.args in stacking_begin a.width a.trace a.count a.high a.piece.now a.tables.now c.requires.piece_value
 
 pub overflow_add-n : goal.overflow_add-n
 overflow_add-n c = omega (arith, turn c)
@@ -77,7 +78,7 @@ write_table-requires c =
     let l = c.loop-i in
     let t = turn c.before.before.before in
     let n = part_length a.piece.now (l.i + 2) (a.width * get_or a.piece.now (l.i + 1) 0) t.end in
-    ((c.requires.width_bound.0, c.requires.width_bound.1, t.room, n), omega (arith, c.requires.width_bound.4, l.invariant.long))
+    record { width_bound = (c.requires.width_bound.0, c.requires.width_bound.1, t.room, n); trace_in_bounds = omega (arith, c.requires.width_bound.4, l.invariant.long) }
 
 pub overflow_add-h : goal.overflow_add-h
 overflow_add-h c = omega (arith, turn c.before.before.before.before.before.before, c.requires.width_bound)
@@ -102,4 +103,4 @@ returns c =
     let a = c.args in
     let l = c.loop-i in
     let done : length a.piece.now ≤ l.i = c.loop-i-test.false in
-    ((stacking_count a.width a.trace a.count a.high a.piece.now a.tables.now l.tables l.t l.h l.i l.invariant done, stacking_high a.width a.trace a.count a.high a.piece.now a.tables.now l.tables l.t l.h l.i l.invariant done), stacking_lines a.width a.trace a.count a.high a.piece.now a.tables.now l.tables l.t l.h l.i l.invariant done)
+    record { count_value = (stacking_count a.width a.trace a.count a.high a.piece.now a.tables.now l.tables l.t l.h l.i l.invariant done, stacking_high a.width a.trace a.count a.high a.piece.now a.tables.now l.tables l.t l.h l.i l.invariant done); tables_after = stacking_lines a.width a.trace a.count a.high a.piece.now a.tables.now l.tables l.t l.h l.i l.invariant done }

@@ -6,10 +6,27 @@ use Rattle.parameters.specs.Lookup.{mode_of}
 use Rattle.tree.specs.Plan.{plan_in}
 use Rattle.pieces.specs.Setting.{most_tables, counts_fit}
 use Rattle.columns.specs.Intake.{state_in, setting_of}
+use Rattle.columns.proofs.take.counts_fit.Goals.{Else-outline-counts-3}
 use Rattle.columns.proofs.take.counts_fit.Goals as goal
 
 small : (a n b : ℕ) → a ≤ b → n ≤ 65536 → a * n ≤ b * 65536
 small a n b h k = mul-le-mul h k
+
+-- where the tests before are passed, all that is left is the tables
+tables-left : (c : Else-outline-counts-3) (gs ns us : List ℕ) →
+    let s = c.args.counts in
+    let q = c.args.outline in
+    counts_fit (setting_of (plan_in q gs ns)) (state_in s us)
+    ≡ both (leb s.tables (pick (ltb 0 (mode_of q.lookup)) most_tables 0)) (leb s.table_rows (pick (ltb 0 (mode_of q.lookup)) q.trace 0))
+unfolding counts_fit
+tables-left c gs ns us =
+    let s = c.args.counts in
+    let q = c.args.outline in
+    rw (
+      le-leb s.rows q.trace c.if-outline-counts.false,
+      le-leb s.s_words (q.specialised * q.trace) c.if-outline-counts-2.false,
+      le-leb s.cells (q.copy * q.trace) c.if-outline-counts-3.false,
+    )
 
 pub returns-then-outline-counts : goal.returns-then-outline-counts
 unfolding counts_fit
@@ -43,22 +60,6 @@ returns-then-outline-counts-3 c gs ns us =
       le-leb s.rows q.trace c.if-outline-counts.false,
       le-leb s.s_words (q.specialised * q.trace) c.if-outline-counts-2.false,
       lt-leb s.cells (q.copy * q.trace) c.if-outline-counts-3.true,
-    )
-
--- where the tests before are passed, all that is left is the tables
-tables-left : (c : goal.Else-outline-counts-3) (gs ns us : List ℕ) →
-    let s = c.before.before.before.before.before.before.before.before.before.args.counts in
-    let q = c.before.before.before.before.before.before.before.before.before.args.outline in
-    counts_fit (setting_of (plan_in q gs ns)) (state_in s us)
-    ≡ both (leb s.tables (pick (ltb 0 (mode_of q.lookup)) most_tables 0)) (leb s.table_rows (pick (ltb 0 (mode_of q.lookup)) q.trace 0))
-unfolding counts_fit
-tables-left c gs ns us =
-    let s = c.args.counts in
-    let q = c.args.outline in
-    rw (
-      le-leb s.rows q.trace c.if-outline-counts.false,
-      le-leb s.s_words (q.specialised * q.trace) c.if-outline-counts-2.false,
-      le-leb s.cells (q.copy * q.trace) c.if-outline-counts-3.false,
     )
 
 pub returns-then-counts-gt-MOST_TABLES : goal.returns-then-counts-gt-MOST_TABLES

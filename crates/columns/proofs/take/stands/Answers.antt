@@ -5,13 +5,14 @@ use Rattle.columns.specs.Given.{intake_in}
 use Rattle.columns.specs.GivenLaws.{small}
 use Rattle.columns.specs.IntakeLaws.{falls_plan, falls_phase, stands_counts}
 use Rattle.columns.specs.declared.intake.Intake.{Intake}
+use Rattle.columns.proofs.take.stands.Goals.{Else-parts_fault-ne0, Start}
 use Rattle.columns.proofs.take.stands.Goals as goal
 
 -- the state in parts, with any marks
-abbrev held : goal.Start → List ℕ → Intake
+abbrev held : Start → List ℕ → Intake
 held c us = intake_in c.args.outline c.args.gates.now c.args.nodes.now c.args.counts us
 
-no_fault : (c : goal.Else-parts_fault-ne0) → plan_fault (held c.before.before.before.before []).plan ≡ 0
+no_fault : (c : Else-parts_fault-ne0) → plan_fault (held c []).plan ≡ 0
 no_fault c = sym c.parts_fault.ensures ∙ c.if-parts_fault-ne0.false
 
 pub returns-then-parts_fault-ne0 : goal.returns-then-parts_fault-ne0

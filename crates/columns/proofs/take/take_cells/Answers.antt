@@ -11,27 +11,44 @@ use Rattle.columns.specs.declared.intake.Intake.{Intake}
 use Rattle.pieces.specs.Cells.{cells_fault, cells_number}
 use Rattle.pieces.specs.CellLaws.{cells_room, cells_named}
 use Rattle.columns.specs.IntakeLaws.{plan_fine, cells_19, cells_10_copies, cells_10_scratch, cells_own, cells_refused, cells_taken}
+use Rattle.columns.proofs.take.take_cells.Goals.{After-cells_fault-fault, Else-fault-ne0, Start, Then-stands}
 use Rattle.columns.proofs.take.take_cells.Goals as goal
+
+-- the state in parts
+abbrev held : Start → Intake
+held c = intake_in c.args.outline c.args.gates.now c.args.nodes.now c.args.counts []
+
+-- the state stands, so its plan is sound and its counts are within
+upright : (c : Then-stands) → stands (setting_of (held c).plan) (state_of (held c)) ≡ true
+upright c = sym (c.stands.ensures []) ∙ c.if-stands.taken
+
+no_fault : (c : Then-stands) → plan_fault (held c).plan ≡ 0
+no_fault c = plan_fine (held c.before.before.before.before.before.before.before) (upright c)
+
+fine : (c : Then-stands) → Sound (held c).plan
+fine c = sound (held c.before.before.before.before.before.before.before).plan (no_fault c)
+
+counts : (c : Then-stands) → Counted (setting_of (held c).plan) (state_of (held c))
+counts c = (stood (setting_of (held c.before.before.before.before.before.before.before).plan) (state_of (held c.before.before.before.before.before.before.before)) (upright c)).counts
 
 product : (a n b : ℕ) → a ≤ b → n ≤ 65536 → a * n ≤ b * 65536
 product a n b h k = mul-le-mul h k
 
--- the state in parts
-abbrev held : goal.Start → Intake
-held c = intake_in c.args.outline c.args.gates.now c.args.nodes.now c.args.counts []
+-- the piece's number is its first faulty word's
+own : (c : After-cells_fault-fault) → let s = held c in let a = c.args in cells_number (setting_of s.plan) (state_of s) a.piece.now (cols a.copies.now a.scratch.now) ≡ c.cells_fault-fault.result
+own c =
+    let a = c.args in
+    let r = c.rooms_of-rooms.ensures a.gates.now a.nodes.now in
+    cells_own (held c.before.before.before.before.before.before.before.before.before.before.before.before.before.before) a.piece.now (cols a.copies.now a.scratch.now) (upright c.before.before.before.before.before.before.before) (omega (arith, c.if-copies-rooms.left, r.copies_are)) (omega (arith, c.if-scratch-rooms.left, r.scratch_is)) ∙ sym c.cells_fault-fault.ensures
 
--- the state stands, so its plan is sound and its counts are within
-upright : (c : goal.Then-stands) → stands (setting_of (held c.before.before.before.before.before.before.before).plan) (state_of (held c.before.before.before.before.before.before.before)) ≡ true
-upright c = sym (c.stands.ensures []) ∙ c.if-stands.taken
+clean : (c : Else-fault-ne0) → let a = c.args in cells_fault (a.outline.copy * a.outline.trace) a.outline.variables a.counts.cells a.piece.now ≡ 0
+clean c = sym c.cells_fault-fault.ensures ∙ c.if-fault-ne0.left
 
-no_fault : (c : goal.Then-stands) → plan_fault (held c.before.before.before.before.before.before.before).plan ≡ 0
-no_fault c = plan_fine (held c.before.before.before.before.before.before.before) (upright c)
-
-fine : (c : goal.Then-stands) → Sound (held c.before.before.before.before.before.before.before).plan
-fine c = sound (held c.before.before.before.before.before.before.before).plan (no_fault c)
-
-counts : (c : goal.Then-stands) → Counted (setting_of (held c.before.before.before.before.before.before.before).plan) (state_of (held c.before.before.before.before.before.before.before))
-counts c = (stood (setting_of (held c.before.before.before.before.before.before.before).plan) (state_of (held c.before.before.before.before.before.before.before)) (upright c)).counts
+-- a piece without a fault ends within its section
+ends : (c : Else-fault-ne0) → let a = c.args in a.counts.cells + length a.piece.now ≤ a.outline.copy * a.outline.trace
+ends c =
+    let a = c.args in
+    cells_room (a.outline.copy * a.outline.trace) a.outline.variables a.counts.cells a.piece.now (counts c.before.before.before.before.before.before.before.before).cells_in (clean c)
 
 pub rooms_of-rooms-requires : goal.rooms_of-rooms-requires
 rooms_of-rooms-requires c = let a = c.args in small a.outline a.gates.now a.nodes.now (no_fault c)
@@ -43,7 +60,7 @@ returns-then-copies-rooms c =
     let b = cols a.copies.now a.scratch.now in
     let r = c.rooms_of-rooms.ensures a.gates.now a.nodes.now in
     let k = cells_refused s a.piece.now b 10 (cells_10_copies s a.piece.now b (upright c.before.before.before.before) (omega (arith, c.if-copies-rooms.taken, r.copies_are))) (λ z. omega arith) in
-    (c.give.ensures ∙ ap given_of k.0, k.1)
+    record { value = c.give.ensures ∙ ap given_of k.0; scratch_after = k.1 }
 
 pub returns-then-scratch-rooms : goal.returns-then-scratch-rooms
 returns-then-scratch-rooms c =
@@ -52,7 +69,7 @@ returns-then-scratch-rooms c =
     let b = cols a.copies.now a.scratch.now in
     let r = c.rooms_of-rooms.ensures a.gates.now a.nodes.now in
     let k = cells_refused s a.piece.now b 10 (cells_10_scratch s a.piece.now b (upright c.before.before.before.before.before.before) (omega (arith, c.if-copies-rooms.left, r.copies_are)) (omega (arith, c.if-scratch-rooms.taken, r.scratch_is))) (λ z. omega arith) in
-    (c.give-then-scratch-rooms.ensures ∙ ap given_of k.0, k.1)
+    record { value = c.give-then-scratch-rooms.ensures ∙ ap given_of k.0; scratch_after = k.1 }
 
 pub overflow_mul-total : goal.overflow_mul-total
 overflow_mul-total c =
@@ -66,35 +83,16 @@ cells_fault-fault-requires c =
     let w = fine c.before.before.before.before.before.before in
     ((counts c.before.before.before.before.before.before).cells_in, omega (arith, product q.copy q.trace 64 w.ranges.columns w.ranges.long))
 
--- the piece's number is its first faulty word's
-own : (c : goal.After-cells_fault-fault) → let s = held c in let a = c.args in cells_number (setting_of s.plan) (state_of s) a.piece.now (cols a.copies.now a.scratch.now) ≡ c.cells_fault-fault.result
-own c =
-    let a = c.args in
-    let r = c.rooms_of-rooms.ensures a.gates.now a.nodes.now in
-    cells_own (held c.before.before.before.before.before.before.before.before.before.before.before.before.before.before) a.piece.now (cols a.copies.now a.scratch.now) (upright c.before.before.before.before.before.before.before) (omega (arith, c.if-copies-rooms.left, r.copies_are)) (omega (arith, c.if-scratch-rooms.left, r.scratch_is)) ∙ sym c.cells_fault-fault.ensures
-
-clean : (c : goal.Else-fault-ne0) → let a = c.before.before.before.before.before.before.before.before.before.before.before.before.before.before.before.args in cells_fault (a.outline.copy * a.outline.trace) a.outline.variables a.counts.cells a.piece.now ≡ 0
-clean c = sym c.cells_fault-fault.ensures ∙ c.if-fault-ne0.left
-
--- a piece without a fault ends within its section
-ends : (c : goal.Else-fault-ne0) → let a = c.before.before.before.before.before.before.before.before.before.before.before.before.before.before.before.args in a.counts.cells + length a.piece.now ≤ a.outline.copy * a.outline.trace
-ends c =
-    let a = c.args in
-    cells_room (a.outline.copy * a.outline.trace) a.outline.variables a.counts.cells a.piece.now (counts c.before.before.before.before.before.before.before.before).cells_in (clean c)
-
 pub returns-then-fault-ne0 : goal.returns-then-fault-ne0
 returns-then-fault-ne0 c =
     let a = c.args in
     let k = cells_refused (held c.before.before.before.before.before.before.before.before.before.before.before.before.before.before.before.before) a.piece.now (cols a.copies.now a.scratch.now) _ (own c.before.before) c.if-fault-ne0.taken in
-    (c.give-then-fault-ne0.ensures ∙ ap given_of k.0, k.1)
+    record { value = c.give-then-fault-ne0.ensures ∙ ap given_of k.0; scratch_after = k.1 }
 
 pub place_cells-requires : goal.place_cells-requires
 place_cells-requires c =
     let a = c.args in
-    let r = c.rooms_of-rooms.ensures a.gates.now a.nodes.now in (
-      omega (arith, ends c.before.before, c.if-copies-rooms.left, r.copies_are),
-      λ j h l. omega (arith, cells_named (a.outline.copy * a.outline.trace) a.outline.variables a.counts.cells a.piece.now (clean c.before.before) j h l, c.if-scratch-rooms.left, r.scratch_is),
-    )
+    let r = c.rooms_of-rooms.ensures a.gates.now a.nodes.now in record { piece_in_bounds = omega (arith, ends c.before.before, c.if-copies-rooms.left, r.copies_are); by_index = λ j h l. omega (arith, cells_named (a.outline.copy * a.outline.trace) a.outline.variables a.counts.cells a.piece.now (clean c.before.before) j h l, c.if-scratch-rooms.left, r.scratch_is) }
 
 pub overflow_add-counts : goal.overflow_add-counts
 overflow_add-counts c =
@@ -106,7 +104,7 @@ pub returns-then-stands : goal.returns-then-stands
 returns-then-stands c =
     let a = c.args in
     let k = cells_taken (held c.before.before.before.before.before.before.before.before.before.before.before.before.before.before.before.before.before.before.before.before.before.before.before.before) a.piece.now (cols a.copies.now a.scratch.now) (own c.before.before.before.before.before.before.before.before.before.before ∙ c.if-fault-ne0.left) in
-    (c.give-then-stands.ensures ∙ ap given_of k.0, c.place_cells.ensures ∙ k.1)
+    record { value = c.give-then-stands.ensures ∙ ap given_of k.0; scratch_after = c.place_cells.ensures ∙ k.1 }
 
 pub returns : goal.returns
 returns c =
@@ -114,4 +112,4 @@ returns c =
     let a = c.args in
     let b = cols a.copies.now a.scratch.now in
     let k = cells_refused s a.piece.now b 19 (cells_19 s a.piece.now b (sym (c.stands.ensures []) ∙ c.if-stands.left)) (λ z. omega arith) in
-    (c.give-2.ensures ∙ ap given_of k.0, k.1)
+    record { value = c.give-2.ensures ∙ ap given_of k.0; scratch_after = k.1 }

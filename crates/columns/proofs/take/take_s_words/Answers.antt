@@ -11,27 +11,41 @@ use Rattle.columns.specs.declared.intake.Intake.{Intake}
 use Rattle.pieces.specs.SWords.{s_words_number, s_words_written}
 use Rattle.pieces.specs.FaultLaws.{words_room}
 use Rattle.columns.specs.IntakeLaws.{plan_fine, words_19, words_10, words_own, words_refused, words-taken}
+use Rattle.columns.proofs.take.take_s_words.Goals.{After-s_words_fault-fault, Else-fault-ne0, Start, Then-stands}
 use Rattle.columns.proofs.take.take_s_words.Goals as goal
+
+-- the state in parts
+abbrev held : Start → Intake
+held c = intake_in c.args.outline c.args.gates.now c.args.nodes.now c.args.counts []
+
+-- the state stands, so its plan is sound and its counts are within
+upright : (c : Then-stands) → stands (setting_of (held c).plan) (state_of (held c)) ≡ true
+upright c = sym (c.stands.ensures []) ∙ c.if-stands.taken
+
+no_fault : (c : Then-stands) → plan_fault (held c).plan ≡ 0
+no_fault c = plan_fine (held c.before.before.before.before.before.before) (upright c)
+
+fine : (c : Then-stands) → Sound (held c).plan
+fine c = sound (held c.before.before.before.before.before.before).plan (no_fault c)
+
+counts : (c : Then-stands) → Counted (setting_of (held c).plan) (state_of (held c))
+counts c = (stood (setting_of (held c.before.before.before.before.before.before).plan) (state_of (held c.before.before.before.before.before.before)) (upright c)).counts
 
 product : (a n b : ℕ) → a ≤ b → n ≤ 65536 → a * n ≤ b * 65536
 product a n b h k = mul-le-mul h k
 
--- the state in parts
-abbrev held : goal.Start → Intake
-held c = intake_in c.args.outline c.args.gates.now c.args.nodes.now c.args.counts []
+-- the piece's number is its first faulty word's
+own : (c : After-s_words_fault-fault) → let s = held c in let a = c.args in s_words_number (setting_of s.plan) (state_of s) a.piece.now a.constants.now ≡ c.s_words_fault-fault.result
+own c =
+    let a = c.args in
+    let r = c.rooms_of.ensures a.gates.now a.nodes.now in
+    words_own (held c.before.before.before.before.before.before.before.before.before.before.before) a.piece.now a.constants.now (upright c.before.before.before.before.before) (omega (arith, c.if-constants-rooms_of.left, r.constants_are)) ∙ sym c.s_words_fault-fault.ensures
 
--- the state stands, so its plan is sound and its counts are within
-upright : (c : goal.Then-stands) → stands (setting_of (held c.before.before.before.before.before.before).plan) (state_of (held c.before.before.before.before.before.before)) ≡ true
-upright c = sym (c.stands.ensures []) ∙ c.if-stands.taken
-
-no_fault : (c : goal.Then-stands) → plan_fault (held c.before.before.before.before.before.before).plan ≡ 0
-no_fault c = plan_fine (held c.before.before.before.before.before.before) (upright c)
-
-fine : (c : goal.Then-stands) → Sound (held c.before.before.before.before.before.before).plan
-fine c = sound (held c.before.before.before.before.before.before).plan (no_fault c)
-
-counts : (c : goal.Then-stands) → Counted (setting_of (held c.before.before.before.before.before.before).plan) (state_of (held c.before.before.before.before.before.before))
-counts c = (stood (setting_of (held c.before.before.before.before.before.before).plan) (state_of (held c.before.before.before.before.before.before)) (upright c)).counts
+-- a piece without a fault ends within its section
+ends : (c : Else-fault-ne0) → let a = c.args in a.counts.s_words + length a.piece.now ≤ a.outline.specialised * a.outline.trace
+ends c =
+    let a = c.args in
+    words_room (a.outline.specialised * a.outline.trace) a.counts.s_words a.piece.now (counts c.before.before.before.before.before.before).words_in (sym c.s_words_fault-fault.ensures ∙ c.if-fault-ne0.left)
 
 pub rooms_of-requires : goal.rooms_of-requires
 rooms_of-requires c = let a = c.args in small a.outline a.gates.now a.nodes.now (no_fault c)
@@ -42,7 +56,7 @@ returns-then-constants-rooms_of c =
     let a = c.args in
     let r = c.rooms_of.ensures a.gates.now a.nodes.now in
     let k = words_refused s a.piece.now a.constants.now 10 (words_10 s a.piece.now a.constants.now (upright c.before.before.before.before) (omega (arith, c.if-constants-rooms_of.taken, r.constants_are))) (λ z. omega arith) in
-    (c.give.ensures ∙ ap given_of k.0, k.1)
+    record { value = c.give.ensures ∙ ap given_of k.0; constants_after = k.1 }
 
 pub overflow_mul-total : goal.overflow_mul-total
 overflow_mul-total c =
@@ -56,24 +70,11 @@ s_words_fault-fault-requires c =
     let w = fine c.before.before.before.before in
     ((counts c.before.before.before.before).words_in, omega (arith, product q.specialised q.trace 16 w.special w.ranges.long))
 
--- the piece's number is its first faulty word's
-own : (c : goal.After-s_words_fault-fault) → let s = held c in let a = c.args in s_words_number (setting_of s.plan) (state_of s) a.piece.now a.constants.now ≡ c.s_words_fault-fault.result
-own c =
-    let a = c.args in
-    let r = c.rooms_of.ensures a.gates.now a.nodes.now in
-    words_own (held c.before.before.before.before.before.before.before.before.before.before.before) a.piece.now a.constants.now (upright c.before.before.before.before.before) (omega (arith, c.if-constants-rooms_of.left, r.constants_are)) ∙ sym c.s_words_fault-fault.ensures
-
 pub returns-then-fault-ne0 : goal.returns-then-fault-ne0
 returns-then-fault-ne0 c =
     let a = c.args in
     let k = words_refused (held c.before.before.before.before.before.before.before.before.before.before.before.before.before) a.piece.now a.constants.now _ (own c.before.before) c.if-fault-ne0.taken in
-    (c.give-then-fault-ne0.ensures ∙ ap given_of k.0, k.1)
-
--- a piece without a fault ends within its section
-ends : (c : goal.Else-fault-ne0) → let a = c.before.before.before.before.before.before.before.before.before.before.before.before.args in a.counts.s_words + length a.piece.now ≤ a.outline.specialised * a.outline.trace
-ends c =
-    let a = c.args in
-    words_room (a.outline.specialised * a.outline.trace) a.counts.s_words a.piece.now (counts c.before.before.before.before.before.before).words_in (sym c.s_words_fault-fault.ensures ∙ c.if-fault-ne0.left)
+    record { value = c.give-then-fault-ne0.ensures ∙ ap given_of k.0; constants_after = k.1 }
 
 pub overflow_mul-at : goal.overflow_mul-at
 overflow_mul-at c =
@@ -103,11 +104,11 @@ unfolding s_words_written
 returns-then-stands c =
     let a = c.args in
     let k = words-taken (held c.before.before.before.before.before.before.before.before.before.before.before.before.before.before.before.before.before.before.before.before) a.piece.now a.constants.now (own c.before.before.before.before.before.before.before.before.before ∙ c.if-fault-ne0.left) in
-    (c.give-then-stands.ensures ∙ ap given_of k.0, c.write_words.ensures ∙ k.1)
+    record { value = c.give-then-stands.ensures ∙ ap given_of k.0; constants_after = c.write_words.ensures ∙ k.1 }
 
 pub returns : goal.returns
 returns c =
     let s = held c.before.before.before.before.before.before.before in
     let a = c.args in
     let k = words_refused s a.piece.now a.constants.now 19 (words_19 s a.piece.now a.constants.now (sym (c.stands.ensures []) ∙ c.if-stands.left)) (λ z. omega arith) in
-    (c.give-2.ensures ∙ ap given_of k.0, k.1)
+    record { value = c.give-2.ensures ∙ ap given_of k.0; constants_after = k.1 }

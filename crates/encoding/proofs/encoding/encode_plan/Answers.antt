@@ -6,13 +6,14 @@ use Rattle.selector.specs.Nodes.{node_slots}
 use Rattle.encoding.specs.Encoding.{count_at, plan_words}
 use Rattle.writer.specs.HandLaws.{handed_short}
 use Rattle.encoding.specs.EncodingLaws.{plan-length, plan-written}
+use Rattle.encoding.proofs.encoding.encode_plan.Goals.{Start}
 use Rattle.encoding.proofs.encoding.encode_plan.Goals as goal
 
 -- the arrays of a plan by value have their lengths
-gates-long : (c : goal.Start) → length c.args.plan.gates ≡ gate_slots
+gates-long : (c : Start) → length c.args.plan.gates ≡ gate_slots
 gates-long c = search rules
 
-nodes-long : (c : goal.Start) → length c.args.plan.nodes ≡ node_slots
+nodes-long : (c : Start) → length c.args.plan.nodes ≡ node_slots
 nodes-long c = search rules
 
 pub returns-then-words-lt-PLAN_WORDS : goal.returns-then-words-lt-PLAN_WORDS

@@ -3,12 +3,13 @@ use Rattle.std.proofs.Common.{rules, length, length-set, ◌∙◌, ◌≡◌, s
 use Rattle.base.specs.Limits.{most_gates}
 use Rattle.encoding.specs.Encoding.{phase_at, progress_in}
 use Rattle.encoding.specs.EncodingLaws.{progress_written, progressed_short}
+use Rattle.encoding.proofs.encoding.encode_progress.Goals.{Start}
 use Rattle.encoding.proofs.encoding.encode_progress.Goals as goal
 
-used_long c = search rules
-
 -- an array by value has its length
-used_long : (c : goal.Start) → length c.args.t2 ≡ most_gates
+used_long : (c : Start) → length c.args.t2 ≡ most_gates
+
+used_long c = search rules
 
 pub shape_of-words : goal.shape_of-words
 shape_of-words c = length-set c.put_words-then-words-ge-STATE_WORDS.new.out phase_at c.args.counts.phase ∙ c.put_words-then-words-ge-STATE_WORDS.auto.out ∙ c.put_words.auto.out

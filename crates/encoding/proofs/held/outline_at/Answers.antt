@@ -2,10 +2,11 @@
 use Rattle.std.proofs.Common.{false, true, ◌∙◌, ◌≡◌, ap, refl, sym}
 use Rattle.parameters.specs.declared.parameters.Parameters.{Parameters}
 use Rattle.encoding.specs.Encoding.{lookup_fits, lookup_there}
+use Rattle.encoding.proofs.held.outline_at.Goals.{After-lookup_fits}
 use Rattle.encoding.proofs.held.outline_at.Goals as goal
 
 -- the lookup mode's words by the parameters that were read
-there : (c : goal.After-lookup_fits) → c.lookup_fits.result ≡ lookup_there c.args.words.now
+there : (c : After-lookup_fits) → c.lookup_fits.result ≡ lookup_there c.args.words.now
 there c = c.lookup_fits.ensures ∙ ap (λ (q : Parameters). lookup_fits q.mode q.width q.share) c.parameters_at-parameters.ensures
 
 pub returns-then-lookup_fits : goal.returns-then-lookup_fits

@@ -3,24 +3,25 @@ use borrow.Author.Tests.{leb-false}
 use Rattle.std.proofs.Common.{leb-true, refl, sym, ◌∙◌, ◌+◌, ◌-◌, ◌*◌, ◌<◌, ◌≤◌, arith, length, get_or}
 use Rattle.listing.specs.Ends.{fixed_end}
 use Rattle.listing.specs.EndLaws.{found, missing}
+use Rattle.listing.proofs.sections.fixed_section.Goals.{Else-product_within, Then-product_within}
 use Rattle.listing.proofs.sections.fixed_section.Goals as goal
+
+-- the section is within the words, or it is not
+fitting : (c : Then-product_within)
+    → get_or c.args.words.now c.args.at 0 * c.args.each
+    ≤ length c.args.words.now - (c.args.at + 1)
+fitting c = leb-true _ _ (sym c.product_within.ensures ∙ c.if-product_within.true)
+
+too_long : (c : Else-product_within)
+    → length c.args.words.now - (c.args.at + 1)
+    < get_or c.args.words.now c.args.at 0 * c.args.each
+too_long c = leb-false _ _ (sym c.product_within.ensures ∙ c.if-product_within.false)
 
 pub returns-then-words-at : goal.returns-then-words-at
 unfolding fixed_end
 returns-then-words-at c =
     let a = c.args in
     missing (length a.words.now) a.at (fixed_end a.each a.words.now a.at) (omega arith)
-
--- the section is within the words, or it is not
-fitting : (c : goal.Then-product_within)
-    → get_or c.before.before.before.before.before.args.words.now c.before.before.before.before.before.args.at 0 * c.before.before.before.before.before.args.each
-    ≤ length c.before.before.before.before.before.args.words.now - (c.before.before.before.before.before.args.at + 1)
-fitting c = leb-true _ _ (sym c.product_within.ensures ∙ c.if-product_within.true)
-
-too_long : (c : goal.Else-product_within)
-    → length c.before.before.before.before.before.args.words.now - (c.before.before.before.before.before.args.at + 1)
-    < get_or c.before.before.before.before.before.args.words.now c.before.before.before.before.before.args.at 0 * c.before.before.before.before.before.args.each
-too_long c = leb-false _ _ (sym c.product_within.ensures ∙ c.if-product_within.false)
 
 pub overflow_mul-result : goal.overflow_mul-result
 overflow_mul-result c = omega (arith, fitting c)

@@ -7,6 +7,7 @@ use Rattle.parameters.specs.Parameters.{parameter_words}
 use Rattle.listing.specs.Ends.{fixed_end, records_end}
 use Rattle.listing.specs.EndLaws.{Known, section_known, section_missing, fixed_past, records_past, late_parameters, wrong_count, late_gates, late_rows, late_s, late_cells, late_tables, found_whole}
 use Rattle.listing.specs.declared.sections.Part.{Part}
+use Rattle.listing.proofs.sections.sections_from.Goals.{In-Found, In-Found-fixed_section, In-Found-fixed_section-2, In-Found-fixed_section-3, In-Found-rows_section, In-Found-tables_section}
 use Rattle.listing.proofs.sections.sections_from.Goals as goal
 
 -- where a section that was found ends
@@ -14,82 +15,82 @@ abbrev end : Part → ℕ
 end p = p.start + p.len
 
 -- what each section is, once it is found; `to-..` leads from a section to the one before it
-abbrev parameters-words : goal.In-Found → List ℕ
+abbrev parameters-words : In-Found → List ℕ
 parameters-words c = c.before.before.before.before.before.args.words.now
 
-abbrev at : goal.In-Found → ℕ
+abbrev at : In-Found → ℕ
 at c = c.before.before.before.before.before.args.at
 
-abbrev parameters-part : goal.In-Found → Part
+abbrev parameters-part : In-Found → Part
 parameters-part c = c.before.parameters.given.0.0
 
-parameters-known : (c : goal.In-Found) → Known (length (parameters-words c)) (at c) (fixed_end 1 (parameters-words c) (at c)) (parameters-part c)
+parameters-known : (c : In-Found) → Known (length (parameters-words c)) (at c) (fixed_end 1 (parameters-words c) (at c)) (parameters-part c)
 parameters-known c = section_known _ _ _ _ (fixed_past (parameters-words c) (at c) 1) (sym c.parameters-1.given.1 ∙ c.fixed_section.ensures)
 
-abbrev to-parameters : goal.In-Found-fixed_section → goal.In-Found
+abbrev to-parameters : In-Found-fixed_section → In-Found
 to-parameters c = c.before.before.before.before.before.before.before
 
-abbrev gates-words : goal.In-Found-fixed_section → List ℕ
+abbrev gates-words : In-Found-fixed_section → List ℕ
 gates-words c = parameters-words (to-parameters c)
 
-abbrev gates-part : goal.In-Found-fixed_section → Part
+abbrev gates-part : In-Found-fixed_section → Part
 gates-part c = c.before.gates.given.0.0
 
-gates-known : (c : goal.In-Found-fixed_section) → Known (length (gates-words c)) (end (parameters-part (to-parameters c))) (fixed_end gate_words (gates-words c) (end (parameters-part (to-parameters c)))) (gates-part c)
+gates-known : (c : In-Found-fixed_section) → Known (length (gates-words c)) (end (parameters-part (to-parameters c))) (fixed_end gate_words (gates-words c) (end (parameters-part (to-parameters c)))) (gates-part c)
 gates-known c = section_known _ _ _ _ (fixed_past (gates-words c) (end (parameters-part (to-parameters c))) gate_words) (sym c.gates-1.given.1 ∙ c.fixed_section-2.ensures)
 
-abbrev to-gates : goal.In-Found-rows_section → goal.In-Found-fixed_section
+abbrev to-gates : In-Found-rows_section → In-Found-fixed_section
 to-gates c = c.before.before.before.before.before
 
-abbrev rows_words : goal.In-Found-rows_section → List ℕ
+abbrev rows_words : In-Found-rows_section → List ℕ
 rows_words c = gates-words (to-gates c)
 
-abbrev rows_part : goal.In-Found-rows_section → Part
+abbrev rows_part : In-Found-rows_section → Part
 rows_part c = c.before.rows.given.0.0
 
-rows-known : (c : goal.In-Found-rows_section) → Known (length (rows_words c)) (end (gates-part (to-gates c))) (records_end row_size (rows_words c) (end (gates-part (to-gates c)))) (rows_part c)
+rows-known : (c : In-Found-rows_section) → Known (length (rows_words c)) (end (gates-part (to-gates c))) (records_end row_size (rows_words c) (end (gates-part (to-gates c)))) (rows_part c)
 rows-known c = section_known _ _ _ _ (records_past (rows_words c) (end (gates-part (to-gates c))) row_size) (sym c.rows-1.given.1 ∙ c.rows_section.ensures)
 
-abbrev to_rows : goal.In-Found-fixed_section-2 → goal.In-Found-rows_section
+abbrev to_rows : In-Found-fixed_section-2 → In-Found-rows_section
 to_rows c = c.before.before.before.before.before
 
-abbrev s-words-words : goal.In-Found-fixed_section-2 → List ℕ
+abbrev s-words-words : In-Found-fixed_section-2 → List ℕ
 s-words-words c = rows_words (to_rows c)
 
-abbrev s-words-part : goal.In-Found-fixed_section-2 → Part
+abbrev s-words-part : In-Found-fixed_section-2 → Part
 s-words-part c = c.before.s-words.given.0.0
 
-s-words-known : (c : goal.In-Found-fixed_section-2) → Known (length (s-words-words c)) (end (rows_part (to_rows c))) (fixed_end 1 (s-words-words c) (end (rows_part (to_rows c)))) (s-words-part c)
+s-words-known : (c : In-Found-fixed_section-2) → Known (length (s-words-words c)) (end (rows_part (to_rows c))) (fixed_end 1 (s-words-words c) (end (rows_part (to_rows c)))) (s-words-part c)
 s-words-known c = section_known _ _ _ _ (fixed_past (s-words-words c) (end (rows_part (to_rows c))) 1) (sym c.s_words-1.given.1 ∙ c.fixed_section-3.ensures)
 
-abbrev to-s-words : goal.In-Found-fixed_section-3 → goal.In-Found-fixed_section-2
+abbrev to-s-words : In-Found-fixed_section-3 → In-Found-fixed_section-2
 to-s-words c = c.before.before.before.before.before
 
-abbrev cells_words : goal.In-Found-fixed_section-3 → List ℕ
+abbrev cells_words : In-Found-fixed_section-3 → List ℕ
 cells_words c = s-words-words (to-s-words c)
 
-abbrev cells_part : goal.In-Found-fixed_section-3 → Part
+abbrev cells_part : In-Found-fixed_section-3 → Part
 cells_part c = c.before.cells.given.0.0
 
-cells-known : (c : goal.In-Found-fixed_section-3) → Known (length (cells_words c)) (end (s-words-part (to-s-words c))) (fixed_end 1 (cells_words c) (end (s-words-part (to-s-words c)))) (cells_part c)
+cells-known : (c : In-Found-fixed_section-3) → Known (length (cells_words c)) (end (s-words-part (to-s-words c))) (fixed_end 1 (cells_words c) (end (s-words-part (to-s-words c)))) (cells_part c)
 cells-known c = section_known _ _ _ _ (fixed_past (cells_words c) (end (s-words-part (to-s-words c))) 1) (sym c.cells-1.given.1 ∙ c.fixed_section-4.ensures)
 
-abbrev to_cells : goal.In-Found-tables_section → goal.In-Found-fixed_section-3
+abbrev to_cells : In-Found-tables_section → In-Found-fixed_section-3
 to_cells c = c.before.before.before.before.before
 
-abbrev tables-words : goal.In-Found-tables_section → List ℕ
+abbrev tables-words : In-Found-tables_section → List ℕ
 tables-words c = cells_words (to_cells c)
 
-abbrev tables-part : goal.In-Found-tables_section → Part
+abbrev tables-part : In-Found-tables_section → Part
 tables-part c = c.before.tables.given.0.0
 
-tables-known : (c : goal.In-Found-tables_section) → Known (length (tables-words c)) (end (cells_part (to_cells c))) (records_end table_size (tables-words c) (end (cells_part (to_cells c)))) (tables-part c)
+tables-known : (c : In-Found-tables_section) → Known (length (tables-words c)) (end (cells_part (to_cells c))) (records_end table_size (tables-words c) (end (cells_part (to_cells c)))) (tables-part c)
 tables-known c = section_known _ _ _ _ (records_past (tables-words c) (end (cells_part (to_cells c))) table_size) (sym c.tables-1.given.1 ∙ c.tables_section.ensures)
 
-fits : (c : goal.In-Found) → length (parameters-words c) < 2 ^ 64
+fits : (c : In-Found) → length (parameters-words c) < 2 ^ 64
 fits c = omega arith
 
-eight : (c : goal.In-Found-fixed_section) → end (parameters-part (to-parameters c)) - (at (to-parameters c) + 1) ≡ parameter_words
+eight : (c : In-Found-fixed_section) → end (parameters-part (to-parameters c)) - (at (to-parameters c) + 1) ≡ parameter_words
 eight c = omega (arith, parameters-known (to-parameters c.before.before.before.before.before.before.before), c.if-parameters-ne-PARAMETER_WORDS.false)
 
 pub returns-in_default : goal.returns-in_default

@@ -5,7 +5,21 @@ use Rattle.std.proofs.Common.{leb-true, sym, ◌∙◌, ◌+◌, ◌-◌, ◌*�
 use Rattle.pieces.specs.Records.{table_size}
 use Rattle.listing.specs.Ends.{records_end}
 use Rattle.listing.specs.EndLaws.{missing, records_past, going_begin, going_next, going_gone, going_done}
+use Rattle.listing.proofs.sections.tables_section.Goals.{Else-product_within, Then-product_within}
 use Rattle.listing.proofs.sections.tables_section.Goals as goal
+
+-- the table at i is within the words, or it is not
+fitting : (c : Then-product_within)
+    → get_or c.args.words.now c.loop-left.i 0
+    * get_or c.args.words.now (c.loop-left.i + 1) 0
+    ≤ length c.args.words.now - c.loop-left.i - 2
+fitting c = leb-true _ _ (sym c.product_within.ensures ∙ c.if-product_within.true)
+
+too_long : (c : Else-product_within)
+    → length c.args.words.now - c.loop-left.i - 2
+    < get_or c.args.words.now c.loop-left.i 0
+    * get_or c.args.words.now (c.loop-left.i + 1) 0
+too_long c = leb-false _ _ (sym c.product_within.ensures ∙ c.if-product_within.false)
 
 pub returns-then-words-at : goal.returns-then-words-at
 returns-then-words-at c =
@@ -20,19 +34,6 @@ returns-then-words-i-lt2 c =
     let a = c.args in
     let l = c.loop-left in
     going_gone table_size a.words.now a.at l.left l.i l.invariant (omega arith) (omega arith)
-
--- the table at i is within the words, or it is not
-fitting : (c : goal.Then-product_within)
-    → get_or c.before.before.before.before.before.before.before.before.before.before.args.words.now c.before.before.before.before.before.before.loop.i 0
-    * get_or c.before.before.before.before.before.before.before.before.before.before.args.words.now (c.before.before.before.before.before.before.loop.i + 1) 0
-    ≤ length c.before.before.before.before.before.before.before.before.before.before.args.words.now - c.before.before.before.before.before.before.loop.i - 2
-fitting c = leb-true _ _ (sym c.product_within.ensures ∙ c.if-product_within.true)
-
-too_long : (c : goal.Else-product_within)
-    → length c.before.before.before.before.before.before.before.before.before.before.args.words.now - c.before.before.before.before.before.before.loop.i - 2
-    < get_or c.before.before.before.before.before.before.before.before.before.before.args.words.now c.before.before.before.before.before.before.loop.i 0
-    * get_or c.before.before.before.before.before.before.before.before.before.before.args.words.now (c.before.before.before.before.before.before.loop.i + 1) 0
-too_long c = leb-false _ _ (sym c.product_within.ensures ∙ c.if-product_within.false)
 
 pub overflow_mul-i : goal.overflow_mul-i
 overflow_mul-i c = omega (arith, fitting c)

@@ -19,7 +19,7 @@ returns-then-bytes-i c =
     let l = c.loop-i in
     let a = c.args in
     let e : l.i ≡ min (length a.bytes.now / 8) (length a.words.now) = omega arith in
-    (e, words_filled a.bytes.now a.words.now l.words l.i e l.invariant.2)
+    record { value = e; words_after = words_filled a.bytes.now a.words.now l.words l.i e l.invariant.2 }
 
 -- src/words.rt:43:9
 pub bounds-words-i : goal.bounds-words-i
@@ -42,4 +42,4 @@ returns c =
     let l = c.loop-i in
     let a = c.args in
     let e : l.i ≡ min (length a.bytes.now / 8) (length a.words.now) = omega arith in
-    (e, words_filled a.bytes.now a.words.now l.words l.i e l.invariant.2)
+    record { value = e; words_after = words_filled a.bytes.now a.words.now l.words l.i e l.invariant.2 }

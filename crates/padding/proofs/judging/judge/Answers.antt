@@ -15,33 +15,29 @@ use Rattle.listing.specs.Listing.{Words}
 use Rattle.padding.specs.Padding.{given, with_trace, filler_of}
 use Rattle.padding.specs.Judging.{six_of}
 use Rattle.padding.specs.JudgingLaws.{Reached, reached, pad_range, pad_planning, pad_21, pad_22, pad_own, refusal}
+use Rattle.padding.proofs.judging.judge.Goals.{After-parameters_at-parameters, After-plan-planned, After-power_or_one-length, Else-gates-gate, Else-given-gt-LONGEST_TRACE, Else-planned-ne0}
 use Rattle.padding.proofs.judging.judge.Goals as goal
 
 -- ---- the places before
-abbrev six : goal.After-parameters_at-parameters → Words
+abbrev six : After-parameters_at-parameters → Words
 six c = let a = c.before.before.before.before.before.before.before.args in six_of a.eight.now a.gates.now a.rows.now a.s-words.now a.cells.now a.tables.now
 
-abbrev low : goal.After-power_or_one-length → goal.Else-given-gt-LONGEST_TRACE
+abbrev low : After-power_or_one-length → Else-given-gt-LONGEST_TRACE
 low c = c.before.before.before.before
 
-abbrev long : goal.Else-planned-ne0 → goal.After-power_or_one-length
+abbrev long : Else-planned-ne0 → After-power_or_one-length
 long c = c.before.before.before.before
 
-abbrev of : goal.Else-planned-ne0 → Words
+abbrev of : Else-planned-ne0 → Words
 of c = six (low (long c)).before
 
-given_is : (c : goal.After-parameters_at-parameters) → c.parameters_at-parameters.result.trace ≡ given (six c)
+given_is : (c : After-parameters_at-parameters) → c.parameters_at-parameters.result.trace ≡ given (six c)
 given_is c = ap (λ (y : Parameters). y.trace) c.parameters_at-parameters.ensures
 
-pub returns-then-given-gt-LONGEST_TRACE : goal.returns-then-given-gt-LONGEST_TRACE
-returns-then-given-gt-LONGEST_TRACE c =
-    let w = six c.before.before in
-    refusal w _ 1 c.refused.ensures.0 (λ z. omega (arith, z)) (pad_range w (omega (arith, given_is c.before.before, c.if-given-gt-LONGEST_TRACE.true)))
-
-within : (c : goal.Else-given-gt-LONGEST_TRACE) → given (six c.before) ≤ longest_trace
+within : (c : Else-given-gt-LONGEST_TRACE) → given (six c) ≤ longest_trace
 within c = omega (arith, given_is c.before, c.if-given-gt-LONGEST_TRACE.false)
 
-reach : (c : goal.After-power_or_one-length) → Reached (six (low c).before) c.greater-least.result c.power_or_one-length.result
+reach : (c : After-power_or_one-length) → Reached (six (low c).before) c.greater-least.result c.power_or_one-length.result
 reach c =
     let p = (low c).before in
     let w = six p in
@@ -52,42 +48,47 @@ reach c =
     ∙ ap (max (length (rows_of w.rows) + 1)) (c.greater.ensures ∙ ap (max t) (given_is p))
     in
     subst (λ (b : ℕ). Reached w b c.power_or_one-length.result) (sym e)
-    (reached w t c.power_or_one-length.result c.table_rows.ensures (within (low c)) (c.power_or_one-length.ensures ∙ ap (λ (b : ℕ). pick (leb b longest_trace) (2 ^ exponent b) 1) e))
+    (reached w t c.power_or_one-length.result c.table_rows.ensures (within (low c.before.before.before.before)) (c.power_or_one-length.ensures ∙ ap (λ (b : ℕ). pick (leb b longest_trace) (2 ^ exponent b) 1) e))
 
-abbrev with_length : goal.After-power_or_one-length → Parameters
+abbrev with_length : After-power_or_one-length → Parameters
 with_length c = with_trace c.power-or-one.result (parameters_at (six (low c).before).parameters)
 
-planned_is : (c : goal.After-plan-planned) → c.plan-planned.result ≡ plan_answer (with_length c) (six (low c).before).gates
+planned_is : (c : After-plan-planned) → c.plan-planned.result ≡ plan_answer (with_length c) (six (low c).before).gates
 planned_is c =
     c.plan-planned.ensures
     ∙ ap (λ (y : Parameters). plan_answer y (six (low c).before).gates) (c.with_trace.ensures ∙ ap (with_trace c.power_or_one-length.result) (low c).before.parameters-at.ensures)
 
-number_is : (c : goal.After-plan-planned) → c.plan-planned.result.number ≡ plan_number (with_length c) (six (low c).before).gates
+number_is : (c : After-plan-planned) → c.plan-planned.result.number ≡ plan_number (with_length c) (six (low c).before).gates
 number_is c = ap (λ (y : Planned). y.number) (planned_is c)
+
+zero : (c : Else-planned-ne0) → plan_number (with_length (long c)) (of c).gates ≡ 0
+zero c = sym (number_is c.before.before) ∙ c.if-planned-ne0.false
+
+listed : (c : Else-gates-gate) → filler_of (of c).gates < count_of_gates (of c).gates
+listed c = omega (arith, c.filler_gate-gate.ensures, c.if-gates-gate.false)
+
+pub returns-then-given-gt-LONGEST_TRACE : goal.returns-then-given-gt-LONGEST_TRACE
+returns-then-given-gt-LONGEST_TRACE c =
+    let w = six c.before.before in
+    refusal w _ 1 c.refused.ensures.0 (λ z. omega (arith, z)) (pad_range w (omega (arith, given_is c.before.before, c.if-given-gt-LONGEST_TRACE.true)))
 
 pub returns-then-planned-ne0 : goal.returns-then-planned-ne0
 returns-then-planned-ne0 c =
     let w = six (low c).before in
     let d : plan_number (with_length c) w.gates ≢ 0 = λ z. c.if-planned-ne0.true (number_is c.before.before.before ∙ z) in
-    refusal w _ (plan_number (with_length c.before.before.before) w.gates) (c.refused-then-planned-ne0.ensures.0 ∙ number_is c.before.before.before) d (pad_planning w c.power_or_one-length.result (reach c.before.before.before.before.before).in_range (within (low c)) d)
-
-zero : (c : goal.Else-planned-ne0) → plan_number (with_length (long c)) (of c).gates ≡ 0
-zero c = sym (number_is c.before.before) ∙ c.if-planned-ne0.false
+    refusal w _ (plan_number (with_length c.before.before.before) w.gates) (c.refused-then-planned-ne0.ensures.0 ∙ number_is c.before.before.before) d (pad_planning w c.power_or_one-length.result (reach c.before.before.before.before.before).in_range (within (low c.before.before.before.before.before.before.before.before.before)) d)
 
 pub returns-then-gates-gate : goal.returns-then-gates-gate
 returns-then-gates-gate c =
     let l = long c.before in
     let w = of c.before in
     let h : count_of_gates w.gates ≤ filler_of w.gates = omega (arith, c.filler_gate-gate.ensures, c.if-gates-gate.true) in
-    refusal w _ 21 c.refused-then-gates-gate.ensures.0 (λ z. omega (arith, z)) (pad_21 w l.power-or-one.result (reach l).in_range (within (low l)) (zero c.before) h)
-
-listed : (c : goal.Else-gates-gate) → filler_of (of c.before.before).gates < count_of_gates (of c.before.before).gates
-listed c = omega (arith, c.filler_gate-gate.ensures, c.if-gates-gate.false)
+    refusal w _ 21 c.refused-then-gates-gate.ensures.0 (λ z. omega (arith, z)) (pad_21 w l.power-or-one.result (reach l).in_range (within (low l)) (zero c.before.before.before) h)
 
 pub returns-then-least-gt-LONGEST_TRACE : goal.returns-then-least-gt-LONGEST_TRACE
 returns-then-least-gt-LONGEST_TRACE c =
     let l = long c.before.before in
-    refusal (of c.before.before) _ 22 c.refused-then-least-gt-LONGEST_TRACE.ensures.0 (λ z. omega (arith, z)) (pad_22 (of c.before.before) l.power-or-one.result (reach l).in_range (within (low l)) (zero c.before.before) (listed c) ((reach l).passes c.if-least-gt-LONGEST_TRACE.true))
+    refusal (of c.before.before) _ 22 c.refused-then-least-gt-LONGEST_TRACE.ensures.0 (λ z. omega (arith, z)) (pad_22 (of c.before.before) l.power-or-one.result (reach l).in_range (within (low l)) (zero c.before.before.before.before) (listed c.before.before) ((reach l).passes c.if-least-gt-LONGEST_TRACE.true))
 
 pub returns : goal.returns
 returns c =
@@ -102,7 +103,7 @@ returns c =
           ∙ ap (λ (n : ℕ). unpadded_call (setting_of c.plan-planned.result.plan) n k w.rows w.s_words w.cells w.tables) (given_is (low l).before)
           ∙ ap (λ (y : Planned). unpadded_call (setting_of y.plan) (given w) k w.rows w.s_words w.cells w.tables) (planned_is c.before.before.before.before.before.before.before)
           ∙ ap (λ (n : ℕ). unpadded_call (setting_of (planned (with_length l) w.gates)) (given w) n w.rows w.s_words w.cells w.tables) g
-          ∙ pad_own w l.power-or-one.result (reach l).in_range (within (low l)) (zero c) (listed c) r.1 r.0;
+          ∙ pad_own w l.power-or-one.result (reach l).in_range (within (low l)) (zero c.before.before.before.before.before) (listed c.before.before.before) r.1 r.0;
       length_is = λ z. r.0;
       gate_is = λ z. g;
     }

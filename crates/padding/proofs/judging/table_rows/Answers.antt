@@ -3,17 +3,18 @@ use Rattle.std.proofs.Common.{◌≡◌, sym, subst, arith, ℕ, ◌+◌, ◌-�
 use Rattle.pieces.specs.Records.{table_size}
 use Rattle.pieces.specs.RecordLaws.{Uncut}
 use Rattle.padding.specs.Sums.{Summing, summing_begin, summing_here, summing_next, summing_passed, summing_done}
+use Rattle.padding.proofs.judging.table_rows.Goals.{In-loop-i}
 use Rattle.padding.proofs.judging.table_rows.Goals as goal
+
+-- the table at the front is whole
+here : (c : In-loop-i) → Uncut table_size c.args.tables.now c.loop-i.i
+here c = let l = c.loop-i in summing_here c.args.tables.now l.sum l.i l.invariant.1 (omega (arith, c.loop-i-test))
 
 end : (ws : List ℕ) (i : ℕ) → Uncut table_size ws i → i + 2 + get_or ws i 0 * get_or ws (i + 1) 0 ≤ length ws
 end ws i u = omega (arith, u.two, u.fits)
 
 pub loop-i-init : goal.loop-i-init
 loop-i-init c = (omega arith, summing_begin c.args.tables.now c.requires)
-
--- the table at the front is whole
-here : (c : goal.In-loop-i) → Uncut table_size c.args.tables.now c.loop-i.i
-here c = let l = c.loop-i in summing_here c.args.tables.now l.sum l.i l.invariant.1 (omega (arith, c.loop-i-test))
 
 pub overflow_add-n : goal.overflow_add-n
 overflow_add-n c = omega (arith, (here c).two)

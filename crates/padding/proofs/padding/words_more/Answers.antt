@@ -1,7 +1,14 @@
 -- `padding::words_more` meets its contract: no product passes a word.
 use Rattle.std.proofs.Common.{refl, arith, mul-le-mul, ◌*◌, ◌-◌, ◌≤◌, get_or}
 use Rattle.labels.specs.Ranges.{longest_trace, most_columns}
+use Rattle.padding.proofs.padding.words_more.Goals.{Start}
 use Rattle.padding.proofs.padding.words_more.Goals as goal
+
+few : (s : Start) → let a = s.args in get_or a.eight.now 3 0 * (a.long - get_or a.eight.now 0 0) ≤ most_columns * longest_trace
+few s = let a = s.args in mul-le-mul s.requires.special (let z : a.long - get_or a.eight.now 0 0 ≤ longest_trace = omega (arith, s.requires.not-long) in z)
+
+many : (s : Start) → let a = s.args in get_or a.eight.now 1 0 * (a.long - get_or a.eight.now 0 0) ≤ most_columns * longest_trace
+many s = let a = s.args in mul-le-mul s.requires.copied (let z : a.long - get_or a.eight.now 0 0 ≤ longest_trace = omega (arith, s.requires.not-long) in z)
 
 pub overflow_sub-rows : goal.overflow_sub-rows
 overflow_sub-rows c = c.requires.rows_in
@@ -17,12 +24,6 @@ bounds-eight-3 c = omega (arith, c.requires.eight-words)
 
 pub bounds-eight-1 : goal.bounds-eight-1
 bounds-eight-1 c = omega (arith, c.requires.eight-words)
-
-few : (s : goal.Start) → let a = s.args in get_or a.eight.now 3 0 * (a.long - get_or a.eight.now 0 0) ≤ most_columns * longest_trace
-few s = let a = s.args in mul-le-mul s.requires.special (let z : a.long - get_or a.eight.now 0 0 ≤ longest_trace = omega (arith, s.requires.not-long) in z)
-
-many : (s : goal.Start) → let a = s.args in get_or a.eight.now 1 0 * (a.long - get_or a.eight.now 0 0) ≤ most_columns * longest_trace
-many s = let a = s.args in mul-le-mul s.requires.copied (let z : a.long - get_or a.eight.now 0 0 ≤ longest_trace = omega (arith, s.requires.not-long) in z)
 
 pub overflow_mul-result : goal.overflow_mul-result
 overflow_mul-result c = omega (arith, c.requires.not-long)

@@ -16,7 +16,7 @@ put_columns-requires c =
     let a = c.args in
     let n = a.columns * a.long ∷ [] in
     let e = c.put_same.ensures ∙ put_fits a.at n a.out.now (omega (arith, c.requires.height_le_long.2)) in
-    ((c.requires.height_le_long.0, c.requires.height_le_long.1, omega (arith, c.requires.height_le_long.2, ap length e, put-length a.at n a.out.now (omega (arith, c.requires.height_le_long.2)))), c.requires.long_le_longest_trace)
+    record { height_le_long = (c.requires.height_le_long.0, c.requires.height_le_long.1, omega (arith, c.requires.height_le_long.2, ap length e, put-length a.at n a.out.now (omega (arith, c.requires.height_le_long.2)))); long_le_longest_trace = c.requires.long_le_longest_trace }
 
 pub returns : goal.returns
 returns c =

@@ -5,18 +5,27 @@ use Rattle.writer.specs.Put.{put, put_if}
 use Rattle.writer.specs.PutLaws.{put-nothing, put-length}
 use Rattle.padding.specs.Padding.{stretched}
 use Rattle.padding.specs.PartsLaws.{columns_step, stretched-long}
+use Rattle.padding.proofs.parts.put_columns.Goals.{After-loop-c, In-loop-c}
 use Rattle.padding.proofs.parts.put_columns.Goals as goal
+
+-- a column more fits
+up : (c : In-loop-c) → let a = c.args in (c.loop-c.c + 1) * a.long ≤ a.columns * a.long
+up c = let a = c.args in mul-le-mul (omega arith) (let z : a.long ≤ a.long = omega arith in z)
+
+up-words : (c : In-loop-c) → let a = c.args in (c.loop-c.c + 1) * a.height ≤ a.columns * a.height
+up-words c = let a = c.args in mul-le-mul (omega arith) (let z : a.height ≤ a.height = omega arith in z)
+
+-- all columns
+done : (c : After-loop-c) → let a = c.args in c.loop-c.out ≡ put a.at (stretched a.fill a.height a.long a.columns a.words.now) a.out.now
+done c =
+    let l = c.loop-c in
+    let a = c.args in
+    let e : l.c ≡ a.columns = omega (arith, c.loop-c-test) in
+    l.invariant.1 ∙ ap (λ (k : ℕ). put a.at (besides a.height (a.long - a.height) k a.words.now (replicate (a.columns * (a.long - a.height)) a.fill)) a.out.now) e
 
 pub loop-c-init : goal.loop-c-init
 unfolding besides
 loop-c-init c = let a = c.args in (omega arith, put-nothing a.at a.out.now)
-
--- a column more fits
-up : (c : goal.In-loop-c) → let a = c.args in (c.loop-c.c + 1) * a.long ≤ a.columns * a.long
-up c = let a = c.args in mul-le-mul (omega arith) (let z : a.long ≤ a.long = omega arith in z)
-
-up-words : (c : goal.In-loop-c) → let a = c.args in (c.loop-c.c + 1) * a.height ≤ a.columns * a.height
-up-words c = let a = c.args in mul-le-mul (omega arith) (let z : a.height ≤ a.height = omega arith in z)
 
 pub overflow_mul-start : goal.overflow_mul-start
 overflow_mul-start c = omega (arith, up c, c.requires.height_le_long.2)
@@ -47,14 +56,6 @@ overflow_mul-result c = omega (arith, c.requires.height_le_long.2)
 
 pub overflow_add-result : goal.overflow_add-result
 overflow_add-result c = omega (arith, c.requires.height_le_long.2)
-
--- all columns
-done : (c : goal.After-loop-c) → let a = c.args in c.loop-c.out ≡ put a.at (stretched a.fill a.height a.long a.columns a.words.now) a.out.now
-done c =
-    let l = c.loop-c in
-    let a = c.args in
-    let e : l.c ≡ a.columns = omega (arith, c.loop-c-test) in
-    l.invariant.1 ∙ ap (λ (k : ℕ). put a.at (besides a.height (a.long - a.height) k a.words.now (replicate (a.columns * (a.long - a.height)) a.fill)) a.out.now) e
 
 pub shape_of-out : goal.shape_of-out
 shape_of-out c =

@@ -4,6 +4,7 @@ use Rattle.parameters.specs.Parameters.{parameter_words}
 use Rattle.writer.specs.Put.{put}
 use Rattle.writer.specs.PutLaws.{put_fits, put-length}
 use Rattle.padding.specs.PartsLaws.{put-after}
+use Rattle.padding.proofs.parts.put_parameters.Goals.{After-put_same}
 use Rattle.padding.proofs.parts.put_parameters.Goals as goal
 
 -- the part is all words but the first
@@ -11,7 +12,7 @@ part : (ws : List ℕ) → take (length ws - 1) (drop 1 ws) ≡ drop 1 ws
 part ws = take_all (length ws - 1) (drop 1 ws) (omega (arith, length-drop 1 ws))
 
 -- the count stands at the front
-counted : (c : goal.After-put_same) → let o = c.args.out.now in c.put_same.new.out ≡ put 0 (parameter_words ∷ []) o
+counted : (c : After-put_same) → let o = c.args.out.now in c.put_same.new.out ≡ put 0 (parameter_words ∷ []) o
 counted c = c.put_same.ensures ∙ put_fits 0 (parameter_words ∷ []) c.args.out.now (omega (arith, c.requires.1))
 
 pub put_counted-requires : goal.put_counted-requires

@@ -4,7 +4,16 @@ use Rattle.writer.specs.Put.{put}
 use Rattle.writer.specs.PutLaws.{put-nothing, put-length}
 use Rattle.padding.specs.Padding.{fillers}
 use Rattle.padding.specs.PartsLaws.{fillers-long, rows_step}
+use Rattle.padding.proofs.parts.put_rows.Goals.{After-loop-i}
 use Rattle.padding.proofs.parts.put_rows.Goals as goal
+
+-- all records
+done : (c : After-loop-i) → c.loop-i.out ≡ put c.args.at (fillers c.args.many c.args.gate) c.args.out.now
+done c =
+    let l = c.loop-i in
+    let a = c.args in
+    let e : l.i ≡ a.many = omega arith in
+    l.invariant.1 ∙ ap (λ (k : ℕ). put a.at (fillers k a.gate) a.out.now) e
 
 pub loop-i-init : goal.loop-i-init
 unfolding fillers
@@ -15,14 +24,6 @@ loop-i-preserved c =
     let l = c.loop-i in
     let a = c.args in
     (omega arith, rows_step a.gate a.at l.i a.many a.out.now _ _ l.invariant.1 c.put_words.ensures (omega arith) (omega arith))
-
--- all records
-done : (c : goal.After-loop-i) → c.loop-i.out ≡ put c.args.at (fillers c.args.many c.args.gate) c.args.out.now
-done c =
-    let l = c.loop-i in
-    let a = c.args in
-    let e : l.i ≡ a.many = omega arith in
-    l.invariant.1 ∙ ap (λ (k : ℕ). put a.at (fillers k a.gate) a.out.now) e
 
 pub shape_of-out : goal.shape_of-out
 shape_of-out c =

@@ -9,7 +9,7 @@ use Rattle.program.specs.ProgramLaws.{text-long, text-odd, text-words}
 use Rattle.program.proofs.program.run_read.Goals as goal
 
 pub returns-then-bytes-gt-MOST_BYTES : goal.returns-then-bytes-gt-MOST_BYTES
-returns-then-bytes-gt-MOST_BYTES c = c.Put-refused.ensures ∙ ap (put (sink c.args.out.now 0)) (text-long c.args.bytes.now c.if-bytes-gt-MOST_BYTES.true)
+returns-then-bytes-gt-MOST_BYTES c = c.put_refused.ensures ∙ ap (put (sink c.args.out.now 0)) (text-long c.args.bytes.now c.if-bytes-gt-MOST_BYTES.true)
 
 pub returns-then-bytes-ne0 : goal.returns-then-bytes-ne0
 returns-then-bytes-ne0 c = c.put_refused-then-bytes-ne0.ensures ∙ ap (put (sink c.args.out.now 0)) (text-odd c.args.bytes.now (omega (arith, c.if-bytes-gt-MOST_BYTES.false)) c.if-bytes-ne0.true)

@@ -13,7 +13,7 @@ unfolding lent
 returns-then-staged-ne0 c =
     let a = c.args in
     let e : c.run_listing-staged.result.number ≡ (listed_answer a.words.now lent).number = ap (λ (r : Staged). r.number) c.run_listing-staged.ensures.value in
-    c.Put-refused.ensures ∙ ap (λ (n : ℕ). put (sink a.out.now 0) (refused_line n)) e ∙ ap (put (sink a.out.now 0)) (printed_refused a.words.now (λ z. c.if-staged-ne0.true (e ∙ z)))
+    c.put_refused.ensures ∙ ap (λ (n : ℕ). put (sink a.out.now 0) (refused_line n)) e ∙ ap (put (sink a.out.now 0)) (printed_refused a.words.now (λ z. c.if-staged-ne0.true (e ∙ z)))
 
 pub returns : goal.returns
 unfolding lent

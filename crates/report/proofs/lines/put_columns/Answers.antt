@@ -3,10 +3,11 @@ use Rattle.std.proofs.Common.{suc-mul, ◌≡◌, refl, sym, ap, ◌∙◌, List
 use Rattle.report.specs.Report.{newline, column, column_lines}
 use Rattle.report.specs.ReportLaws.{part-column, columns_turn, columns_done}
 use Rattle.octets.specs.Text.{sink, put, field, fields}
+use Rattle.report.proofs.lines.put_columns.Goals.{In-loop-i}
 use Rattle.report.proofs.lines.put_columns.Goals as goal
 
 -- the present column is in the buffer
-room : (c : goal.In-loop-i) → (c.loop-i.from + c.args.trace ≤ length c.args.words.now) × (c.loop-i.from ≤ 4194304)
+room : (c : In-loop-i) → (c.loop-i.from + c.args.trace ≤ length c.args.words.now) × (c.loop-i.from ≤ 4194304)
 room c =
     let l = c.loop-i in
     let a = c.args in

@@ -4,14 +4,15 @@ use Rattle.columns.specs.Intake.{setting_of}
 use Rattle.report.specs.Report.{table_columns}
 use Rattle.report.specs.ReportLaws.{few_constants, few_copies, by_tables, table-room, few_tables}
 use Rattle.tree.specs.SoundLaws.{Sound, sound}
+use Rattle.report.proofs.report.columns_there.Goals.{Start}
 use Rattle.report.proofs.report.columns_there.Goals as goal
+
+-- the plan is sound
+fine : (s : Start) → Sound s.args.plan
+fine s = sound s.args.plan s.pre
 
 small : (a n b : ℕ) → a ≤ b → n ≤ 65536 → a * n ≤ b * 65536
 small a n b h k = mul-le-mul h k
-
--- the plan is sound
-fine : (s : goal.Start) → Sound s.args.plan
-fine s = sound s.args.plan s.pre
 
 pub overflow_add-plan : goal.overflow_add-plan
 overflow_add-plan c = let w = fine c.before.before.before.before in omega (arith, w.height, w.special)

@@ -8,14 +8,15 @@ use Rattle.tree.specs.SoundLaws.{Sound, sound}
 use Rattle.tree.specs.Plan.{plan_selector}
 use Rattle.report.specs.Report.{plan_line, path_lines, column_lines, constant_name, copy_name, table_name, table_columns, ids_line, report_lines}
 use Rattle.report.specs.ReportLaws.{all_there, table-room, few_tables}
+use Rattle.report.proofs.report.put_lines.Goals.{Start}
 use Rattle.report.proofs.report.put_lines.Goals as goal
 
 -- the plan is sound
-fine : (s : goal.Start) → Sound s.args.plan
+fine : (s : Start) → Sound s.args.plan
 fine s = sound s.args.plan s.pre.0
 
 -- the columns are all there
-room : (s : goal.Start) → (constant_room (setting_of s.args.plan) ≤ length s.args.constants.now) × (copy_room (setting_of s.args.plan) ≤ length s.args.copies.now) × (table_room (setting_of s.args.plan) ≤ length s.args.tables.now)
+room : (s : Start) → (constant_room (setting_of s.args.plan) ≤ length s.args.constants.now) × (copy_room (setting_of s.args.plan) ≤ length s.args.copies.now) × (table_room (setting_of s.args.plan) ≤ length s.args.tables.now)
 room s = all_there (setting_of s.args.plan) s.args.constants.now s.args.copies.now s.args.tables.now s.pre.1
 
 pub overflow_add-height : goal.overflow_add-height

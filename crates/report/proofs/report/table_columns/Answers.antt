@@ -2,10 +2,11 @@
 use Rattle.std.proofs.Common.{ap, arith, ℕ, ◌+◌, lt-ltb, le-ltb}
 use Rattle.parameters.specs.Lookup.{mode_of}
 use Rattle.tree.specs.SoundLaws.{Sound, sound}
+use Rattle.report.proofs.report.table_columns.Goals.{Start}
 use Rattle.report.proofs.report.table_columns.Goals as goal
 
 -- the plan is sound
-fine : (s : goal.Start) → Sound s.args.plan
+fine : (s : Start) → Sound s.args.plan
 fine s = sound s.args.plan s.requires
 
 pub overflow_add-result : goal.overflow_add-result

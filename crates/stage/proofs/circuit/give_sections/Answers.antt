@@ -7,13 +7,14 @@ use Rattle.columns.specs.Intake.{state_in, with_state}
 use Rattle.claim.specs.Chain.{Kept, next, chained}
 use Rattle.claim.specs.Keeping.{keeping}
 use Rattle.stage.specs.Steps.{step_rows, step_words, step_cells, step_tables, step_finishing}
+use Rattle.stage.proofs.circuit.give_sections.Goals.{Start}
 use Rattle.stage.proofs.circuit.give_sections.Goals as goal
 
 -- a plan's arrays have all their words
-gates-long : (c : goal.Start) → length c.args.plan.gates ≡ gate_slots
+gates-long : (c : Start) → length c.args.plan.gates ≡ gate_slots
 gates-long c = search rules
 
-nodes-long : (c : goal.Start) → length c.args.plan.nodes ≡ node_slots
+nodes-long : (c : Start) → length c.args.plan.nodes ≡ node_slots
 nodes-long c = search rules
 
 pub slice_bounds-take_rows-end : goal.slice_bounds-take_rows-end
@@ -50,10 +51,10 @@ pub shape_of-constants : goal.shape_of-constants
 shape_of-constants c = c.take_s_words-told.auto.constants ∙ c.take_rows-told.auto.constants
 
 pub shape_of-copies : goal.shape_of-copies
-shape_of-copies c = c.take_finish.auto.copies ∙ c.take-Cells.auto.1.1.1.1.1.0
+shape_of-copies c = c.take_finish.auto.copies ∙ c.take_cells-told.auto.copies
 
 pub shape_of-scratch : goal.shape_of-scratch
-shape_of-scratch c = c.take-Cells.auto.1.1.1.1.1.1.0
+shape_of-scratch c = c.take_cells-told.auto.scratch
 
 pub shape_of-tables : goal.shape_of-tables
 shape_of-tables c = c.take_tables-told.auto.tables
@@ -66,7 +67,7 @@ returns c =
     let u = c.outline-outline in
     let r = c.take_rows-told in
     let w = c.take_s_words-told in
-    let e = c.take-Cells in
+    let e = c.take_cells-told in
     let t = c.take_tables-told in
     let f = c.take_finish in
     let m = r.result.used in

@@ -12,7 +12,7 @@ returns-then-number-ne0 c =
     let a = c.args in
     let b = store_of a.constants.now a.copies.now a.scratch.now a.tables.now in
     let e = c.sections_number-number.ensures in
-    (e, planned_refused a.plan a.rows.now a.s-words.now a.cells.now a.table-words.now b (λ z. c.if-number-ne0.true (e ∙ z)))
+    record { value = e; tables_after = planned_refused a.plan a.rows.now a.s-words.now a.cells.now a.table-words.now b (λ z. c.if-number-ne0.true (e ∙ z)) }
 
 pub shape_of-constants : goal.shape_of-constants
 shape_of-constants c = c.give_sections.auto.constants ∙ c.before.before.before.before.before.before.before.before.before.before.before.before.before.before.before.before.before.before.before.before.before.before.before.«open».auto.1.0
@@ -38,4 +38,4 @@ returns c =
     let ks = calls a.rows.now a.s-words.now a.cells.now a.table-words.now in
     let h = by_opening q b o.result o.new.1.0 o.new.1.1.0 o.new.1.1.1.0 o.new.1.1.1.1.0 o.ensures.0 o.ensures.1 in
     let g = c.give_sections.ensures in
-    (sym c.if-number-ne0.false ∙ n, g ∙ ap (λ (k : Kept). (chained ks k).store) h ∙ planned-taken q a.rows.now a.s-words.now a.cells.now a.table-words.now b z)
+    record { value = sym c.if-number-ne0.false ∙ n; tables_after = g ∙ ap (λ (k : Kept). (chained ks k).store) h ∙ planned-taken q a.rows.now a.s-words.now a.cells.now a.table-words.now b z }

@@ -14,7 +14,7 @@ returns-in-Whole c =
     let g = c.listing-1.given in
     let w = c.run_parts.ensures in
     let k = listed_whole ws b (words_at ws g.0.0) (read_whole ws g.0.0 (sym g.1 ∙ c.sections_of-listing.ensures)) in
-    (w.0 ∙ k.0, w.1 ∙ k.1)
+    record { value = w.0 ∙ k.0; tables_after = w.1 ∙ k.1 }
 
 pub returns-in-Refused : goal.returns-in-Refused
 returns-in-Refused c =
@@ -23,4 +23,4 @@ returns-in-Refused c =
     let b = store_of a.constants.now a.copies.now a.scratch.now a.tables.now in
     let g = c.listing-in-Refused-1.given in
     let k = listed_refused ws b g.0.0 (read_refused ws g.0.0 (sym g.1 ∙ c.sections_of-listing.ensures)) in
-    (c.refused.ensures ∙ k.0, k.1)
+    record { value = c.refused.ensures ∙ k.0; tables_after = k.1 }

@@ -4,7 +4,15 @@ use Rattle.base.specs.Pick.{pick}
 use Rattle.selector.specs.MarkerLaws.{ends-here, ends_kind, ends_path}
 use Rattle.selector.specs.Markers.{marker_ends}
 use Rattle.tree.proofs.gate_rows.blocked_by.Invariants.{straight}
+use Rattle.tree.proofs.gate_rows.blocked_by.Goals.{In-loop-left}
 use Rattle.tree.proofs.gate_rows.blocked_by.Goals as goal
+
+-- the gate at hand, and those after it
+next : (c : In-loop-left) → let a = c.args in
+    marker_ends (straight a.bits.now) a.gates.now a.many ≡ marker_ends (straight a.bits.now) a.gates.now (suc (c.loop-left.left - 1))
+next c =
+    let a = c.args in
+    c.loop-left.invariant.1 ∙ ap (marker_ends (straight a.bits.now) a.gates.now) (omega (arith, c.loop-left-test.true))
 
 pub loop-left-init : goal.loop-left-init
 loop-left-init c = (omega arith, refl)
@@ -26,13 +34,6 @@ offset_bounds-bits-left c = omega (arith, c.loop-left.invariant.0, c.requires)
 
 pub bounds-bits-left : goal.bounds-bits-left
 bounds-bits-left c = omega (arith, c.loop-left.invariant.0, c.requires, c.loop-left-test.true)
-
--- the gate at hand, and those after it
-next : (c : goal.In-loop-left) → let a = c.args in
-    marker_ends (straight a.bits.now) a.gates.now a.many ≡ marker_ends (straight a.bits.now) a.gates.now (suc (c.loop-left.left - 1))
-next c =
-    let a = c.args in
-    c.loop-left.invariant.1 ∙ ap (marker_ends (straight a.bits.now) a.gates.now) (omega (arith, c.loop-left-test.true))
 
 pub returns-then-bits-left-eq0 : goal.returns-then-bits-left-eq0
 returns-then-bits-left-eq0 c =

@@ -34,4 +34,4 @@ returns c =
     let a = c.args in
     let l = c.loop-g in
     let e : l.g ≡ a.many = omega arith in
-    (rw e at l.invariant.1, rw e at l.invariant.2)
+    record { filled = rw e at l.invariant.1; filled_2 = rw e at l.invariant.2 }

@@ -25,7 +25,7 @@ visit-fine-requires c =
     (c.requires.sound, (links a.nodes.now a.count (sym c.linked.ensures ∙ c.if-linked.true), (omega (arith, c.if-count-eq0.false), c.if-count-gt-MOST_NODES.false, omega arith, refl, c.requires.node_slots_in_bounds)))
 
 pub numbers_fit-requires : goal.numbers_fit-requires
-numbers_fit-requires c = omega (arith, c.visit-fine.ensures.1.small)
+numbers_fit-requires c = omega (arith, c.visit-fine.ensures.most.small)
 
 pub returns-then-as_wanted : goal.returns-then-as_wanted
 returns-then-as_wanted c =

@@ -10,34 +10,19 @@ use Rattle.tree.specs.Plan.{for_listed, gate_rows_answer, plan_barred, plan_bloc
 use Rattle.tree.specs.PlanLaws.{fault_none}
 use Rattle.tree.specs.Selection.{selection_bits, selection_length}
 use Rattle.tree.specs.declared.plan.Plan.{Plan}
+use Rattle.tree.proofs.plan.parts_rows.Goals.{After-all_placements, After-blocked_by-blocked, Else-parts_fault-ne0, Start}
 use Rattle.tree.proofs.plan.parts_rows.Goals as goal
 
 -- the plan that the parts are
-abbrev plan : goal.Start → Plan
+abbrev plan : Start → Plan
 plan c = plan_in c.args.outline c.args.gates.now c.args.nodes.now
 
-pub returns-then-parts_fault-ne0 : goal.returns-then-parts_fault-ne0
-unfolding gate_rows_answer
-returns-then-parts_fault-ne0 c =
-    let s = plan c.before.before.before.before.before in
-    rw (ne_eqb (plan_fault s) 0 (λ z. c.if-parts_fault-ne0.true (c.parts_fault.ensures ∙ z))) c.no_gate_rows.ensures
-
 -- the plan has no fault
-fine : (c : goal.Else-parts_fault-ne0) → plan_fault (plan c.before.before.before.before) ≡ 0
+fine : (c : Else-parts_fault-ne0) → plan_fault (plan c) ≡ 0
 fine c = sym c.parts_fault.ensures ∙ c.if-parts_fault-ne0.false
 
-pub all_placements-requires : goal.all_placements-requires
-all_placements-requires c =
-    let w = fault_none (plan c.before.before.before.before.before.before) (fine c.before.before) in
-    (w.nodes.linked, (w.nodes.some_nodes, w.nodes.few, omega arith, omega arith, omega arith, w.node-words))
-
-pub blocked_by-blocked-requires : goal.blocked_by-blocked-requires
-blocked_by-blocked-requires c =
-    let w = fault_none (plan c.before.before.before.before.before.before.before.before) (fine c.before.before.before.before) in
-    (w.words, w.few_gates)
-
 -- the walk wrote the words of all paths
-walked : (c : goal.After-all_placements) → let s = plan c in
+walked : (c : After-all_placements) → let s = plan c in
     let v = c.all_placements.new in
     (v.1.1.1.1.1.1.1.0 ≡ for_listed s (λ (g : ℕ). selection_bits (plan_selection s g))) × (v.1.1.1.1.1.1.1.1.0 ≡ for_listed s (λ (g : ℕ). selection_length (plan_selection s g)))
 walked c =
@@ -46,10 +31,26 @@ walked c =
     paths-placed s (path_words v.new.1.1.1.1.1.1.1.0 v.new.1.1.1.1.1.1.1.1.0) (fine c.before.before.before) v.ensures
 
 -- and by them the all-0 path is a kind 1 gate's or not
-blocked-is : (c : goal.After-blocked_by-blocked) → c.blocked_by-blocked.result ≡ pick (plan_blocked (plan c)) 1 0
+blocked-is : (c : After-blocked_by-blocked) → c.blocked_by-blocked.result ≡ pick (plan_blocked (plan c)) 1 0
 blocked-is c =
     let s = plan c.before.before.before.before.before.before.before.before.before in
     blocked-given s c.blocked_by-blocked.result _ (fine c.before.before.before.before.before) (walked c.before.before).0 c.blocked_by-blocked.ensures
+
+pub returns-then-parts_fault-ne0 : goal.returns-then-parts_fault-ne0
+unfolding gate_rows_answer
+returns-then-parts_fault-ne0 c =
+    let s = plan c.before.before.before.before.before in
+    rw (ne_eqb (plan_fault s) 0 (λ z. c.if-parts_fault-ne0.true (c.parts_fault.ensures ∙ z))) c.no_gate_rows.ensures
+
+pub all_placements-requires : goal.all_placements-requires
+all_placements-requires c =
+    let w = fault_none (plan c.before.before.before.before.before.before) (fine c.before.before) in
+    record { links = w.nodes.linked; at_lt_count = (w.nodes.some_nodes, w.nodes.few, omega arith, omega arith, omega arith, w.node-words) }
+
+pub blocked_by-blocked-requires : goal.blocked_by-blocked-requires
+blocked_by-blocked-requires c =
+    let w = fault_none (plan c.before.before.before.before.before.before.before.before) (fine c.before.before.before.before) in
+    (w.words, w.few_gates)
 
 pub list_gates-requires : goal.list_gates-requires
 list_gates-requires c =

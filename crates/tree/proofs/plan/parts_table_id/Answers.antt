@@ -4,11 +4,16 @@ use Rattle.tree.proofs.PlanCodeLaws.{path_fine, path_refused}
 use Rattle.parameters.specs.Lookup.{mode_of}
 use Rattle.tree.specs.Plan.{plan_fault, plan_in, plan_path, table_id_answer}
 use Rattle.tree.specs.declared.plan.Plan.{Plan}
+use Rattle.tree.proofs.plan.parts_table_id.Goals.{Else-path-ne0, Start}
 use Rattle.tree.proofs.plan.parts_table_id.Goals as goal
 
 -- the plan that the parts are
-abbrev plan : goal.Start → Plan
+abbrev plan : Start → Plan
 plan c = plan_in c.args.outline c.args.gates.now c.args.nodes.now
+
+-- a path that is given is that of a plan without a fault
+fine : (c : Else-path-ne0) → plan_fault (plan c) ≡ 0
+fine c = path_fine (plan c.before.before.before.before.before) c.parts_path-path.result c.parts_path-path.ensures c.if-path-ne0.false
 
 pub returns-then-path-ne0 : goal.returns-then-path-ne0
 unfolding table_id_answer
@@ -16,10 +21,6 @@ returns-then-path-ne0 c =
     let s = plan c.before.before.before.before.before in
     let n = path_refused s c.parts_path-path.result c.parts_path-path.ensures in
     rw (ne_eqb (plan_fault s) 0 (λ z. c.if-path-ne0.true (n z).number))
-
--- a path that is given is that of a plan without a fault
-fine : (c : goal.Else-path-ne0) → plan_fault (plan c.before.before.before.before.before) ≡ 0
-fine c = path_fine (plan c.before.before.before.before.before) c.parts_path-path.result c.parts_path-path.ensures c.if-path-ne0.false
 
 pub returns-then-mode-eq2 : goal.returns-then-mode-eq2
 unfolding table_id_answer

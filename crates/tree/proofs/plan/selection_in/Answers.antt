@@ -11,7 +11,7 @@ returns-then-many-gate c =
 pub output_placement-found-requires : goal.output_placement-found-requires
 output_placement-found-requires c =
     let p = c.requires in
-    (p.0, (p.1.0, p.1.1, omega arith, p.1.2))
+    record { links = p.0; at_lt_count = (p.1.0, p.1.1, omega arith, p.1.2) }
 
 pub returns-then-found : goal.returns-then-found
 returns-then-found c =

@@ -12,7 +12,7 @@ pub returns-then-base-ge-MOST_GATES : goal.returns-then-base-ge-MOST_GATES
 returns-then-base-ge-MOST_GATES c =
     let a = c.args in
     let p = c.requires in
-    (stands a.extra a.target a.bound a.gates.now a.many a.base a.order.now a.nodes.now p.0.0 p.0.1 p.0.2 p.0.3 p.1.0 p.1.1 _ _ (grow_none (may_stand a.extra a.gates.now a.target a.bound) a.gates.now a.many a.base p.0.0 a.order.now p.0.2 p.1.0 a.nodes.now a.nodes.now c.if-base-ge-MOST_GATES.true), p.0.3)
+    record { stands = stands a.extra a.target a.bound a.gates.now a.many a.base a.order.now a.nodes.now p.0.0 p.0.1 p.0.2 p.0.3 p.1.0 p.1.1 _ _ (grow_none (may_stand a.extra a.gates.now a.target a.bound) a.gates.now a.many a.base p.0.0 a.order.now p.0.2 p.1.0 a.nodes.now a.nodes.now c.if-base-ge-MOST_GATES.true); nodes_len = p.0.3 }
 
 pub bounds-order-base : goal.bounds-order-base
 bounds-order-base c = omega (arith, c.if-base-ge-MOST_GATES.false)
@@ -32,7 +32,7 @@ loop-i-init c =
 pub try_add_gate-taken-requires : goal.try_add_gate-taken-requires
 try_add_gate-taken-requires c =
     let l = c.loop-i in
-    (l.invariant.ready c.loop-i-test.true, omega arith)
+    record { fine = l.invariant.ready c.loop-i-test.true; levels_bound = omega arith }
 
 pub returns-then-taken-count : goal.returns-then-taken-count
 returns-then-taken-count c =
@@ -42,12 +42,9 @@ returns-then-taken-count c =
     let e = c.try_add_gate-taken.ensures in
     let n = sym e.0 ∙ c.if-taken-count.true in
     let kept = e.1 ∙ ap (λ (z : Placed). z.nodes) (refused (may_stand a.extra a.gates.now a.target a.bound) (get_or a.order.now l.i 0) l.nodes l.count most_levels 0 0 n) in
-    rw kept (
-      stands a.extra a.target a.bound a.gates.now a.many a.base a.order.now a.nodes.now p.0.0 p.0.1 p.0.2 p.0.3 p.1.0 p.1.1 _ _
+    rw kept record { stands = stands a.extra a.target a.bound a.gates.now a.many a.base a.order.now a.nodes.now p.0.0 p.0.1 p.0.2 p.0.3 p.1.0 p.1.1 _ _
           (grow_fits (may_stand a.extra a.gates.now a.target a.bound) a.gates.now a.many a.base p.0.0 a.order.now p.0.2 p.1.0 _ a.nodes.now c.if-base-ge-MOST_GATES.false c.put_node.ensures (sym c.may_stand.ensures ∙ c.if-may_stand.true)
-          ∙ grow_stop (may_stand a.extra a.gates.now a.target a.bound) a.gates.now a.many a.base p.0.0 a.order.now p.0.2 p.1.0 _ l.nodes l.count l.i l.invariant c.loop-i-test.true n),
-      l.invariant.long,
-    )
+          ∙ grow_stop (may_stand a.extra a.gates.now a.target a.bound) a.gates.now a.many a.base p.0.0 a.order.now p.0.2 p.1.0 _ l.nodes l.count l.i l.invariant c.loop-i-test.true n); nodes_len = l.invariant.long }
 
 pub loop-i-preserved : goal.loop-i-preserved
 loop-i-preserved c =
@@ -61,18 +58,12 @@ pub returns-then-may_stand : goal.returns-then-may_stand
 returns-then-may_stand c =
     let l = c.loop-i in
     let a = c.args in
-    let p = c.requires in (
-      stands a.extra a.target a.bound a.gates.now a.many a.base a.order.now a.nodes.now p.0.0 p.0.1 p.0.2 p.0.3 p.1.0 p.1.1 _ _
+    let p = c.requires in record { stands = stands a.extra a.target a.bound a.gates.now a.many a.base a.order.now a.nodes.now p.0.0 p.0.1 p.0.2 p.0.3 p.1.0 p.1.1 _ _
           (grow_fits (may_stand a.extra a.gates.now a.target a.bound) a.gates.now a.many a.base p.0.0 a.order.now p.0.2 p.1.0 _ a.nodes.now c.if-base-ge-MOST_GATES.false c.put_node.ensures (sym c.may_stand.ensures ∙ c.if-may_stand.true)
-          ∙ grow_end (may_stand a.extra a.gates.now a.target a.bound) a.gates.now a.many a.base p.0.0 a.order.now p.0.2 p.1.0 _ l.nodes l.count l.i l.invariant c.loop-i-test.false),
-      l.invariant.long,
-    )
+          ∙ grow_end (may_stand a.extra a.gates.now a.target a.bound) a.gates.now a.many a.base p.0.0 a.order.now p.0.2 p.1.0 _ l.nodes l.count l.i l.invariant c.loop-i-test.false); nodes_len = l.invariant.long }
 
 pub returns : goal.returns
 returns c =
     let a = c.args in
-    let p = c.requires in (
-      stands a.extra a.target a.bound a.gates.now a.many a.base a.order.now a.nodes.now p.0.0 p.0.1 p.0.2 p.0.3 p.1.0 p.1.1 _ _
-          (grow_not (may_stand a.extra a.gates.now a.target a.bound) a.gates.now a.many a.base p.0.0 a.order.now p.0.2 p.1.0 a.nodes.now a.nodes.now c.if-base-ge-MOST_GATES.false (sym c.may_stand.ensures ∙ c.if-may_stand.false)),
-      p.0.3,
-    )
+    let p = c.requires in record { stands = stands a.extra a.target a.bound a.gates.now a.many a.base a.order.now a.nodes.now p.0.0 p.0.1 p.0.2 p.0.3 p.1.0 p.1.1 _ _
+          (grow_not (may_stand a.extra a.gates.now a.target a.bound) a.gates.now a.many a.base p.0.0 a.order.now p.0.2 p.1.0 a.nodes.now a.nodes.now c.if-base-ge-MOST_GATES.false (sym c.may_stand.ensures ∙ c.if-may_stand.false)); nodes_len = p.0.3 }

@@ -8,7 +8,7 @@ use Rattle.tree.proofs.SearchLaws.{bounds_are, cap_all, cap-next, order_distinct
 use Rattle.tree.proofs.search.search.Goals as goal
 
 pub arrange-ranged-requires : goal.arrange-ranged-requires
-arrange-ranged-requires c = (c.requires.sound, refl)
+arrange-ranged-requires c = record { sound = c.requires.sound; order_len = refl }
 
 pub overflow_sub-base : goal.overflow_sub-base
 overflow_sub-base c = omega (arith, c.arrange-ranged.ensures.degree_value.1.1.1)
@@ -59,11 +59,8 @@ returns-then-count-ne0 c =
     let r = c.arrange-ranged in
     let l = c.loop-k in
     let w = c.power_above-levels in
-    let e = c.try_find_placement_for_degree-count.ensures in (
-      rw l.invariant.3 (target_won a.many (within a.gates.now a.many a.extra) l.k l.target _ _ c.loop-k-test.true
-          (rw (bounds_are a.gates.now a.many a.extra r.new.1.1.1.0 r.result.base r.ensures.0 l.target _ _ r.ensures.1.1.1.0 w.ensures.0 r.ensures.1.1.0) at e.0) c.if-count-ne0.true),
-      e.1,
-    )
+    let e = c.try_find_placement_for_degree-count.ensures in record { stands = rw l.invariant.3 (target_won a.many (within a.gates.now a.many a.extra) l.k l.target _ _ c.loop-k-test.true
+          (rw (bounds_are a.gates.now a.many a.extra r.new.1.1.1.0 r.result.base r.ensures.0 l.target _ _ r.ensures.1.1.1.0 w.ensures.0 r.ensures.1.1.0) at e.0) c.if-count-ne0.true); nodes_len_2 = e.1 }
 
 pub overflow_mul-target : goal.overflow_mul-target
 overflow_mul-target c =
@@ -88,4 +85,4 @@ pub returns : goal.returns
 returns c =
     let a = c.args in
     let l = c.loop-k in
-    (rw (l.invariant.3 ∙ target_none a.many (within a.gates.now a.many a.extra) l.k l.target c.loop-k-test.false) refl, l.invariant.2)
+    record { stands = rw (l.invariant.3 ∙ target_none a.many (within a.gates.now a.many a.extra) l.k l.target c.loop-k-test.false) refl; nodes_len_2 = l.invariant.2 }

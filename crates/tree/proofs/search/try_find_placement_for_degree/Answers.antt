@@ -20,7 +20,7 @@ returns-then-count-ne0 c =
     let l = c.loop-k in
     let a = c.args in
     let e = c.place_all-count.ensures in
-    (rw l.invariant.2 (bound_won a.many (each a.gates.now a.order.now a.base a.extra a.target) l.k l.b _ _ c.loop-k-test.true e.0 c.if-count-ne0.true), e.1)
+    record { stands = rw l.invariant.2 (bound_won a.many (each a.gates.now a.order.now a.base a.extra a.target) l.k l.b _ _ c.loop-k-test.true e.0 c.if-count-ne0.true); nodes_len = e.1 }
 
 pub overflow_add-b : goal.overflow_add-b
 overflow_add-b c =
@@ -51,4 +51,4 @@ pub returns : goal.returns
 returns c =
     let l = c.loop-k in
     let a = c.args in
-    (rw (l.invariant.2 ∙ bound-none a.many (each a.gates.now a.order.now a.base a.extra a.target) l.k l.b c.loop-k-test.false) refl, l.invariant.1)
+    record { stands = rw (l.invariant.2 ∙ bound-none a.many (each a.gates.now a.order.now a.base a.extra a.target) l.k l.b c.loop-k-test.false) refl; nodes_len = l.invariant.1 }

@@ -13,5 +13,5 @@ returns c =
     let a = c.args in
     let b = cols a.copies.now a.scratch.now in
     let w = cells_whole s a.piece.now b in
-    let e : c.take-Cells.result ≡ given_of (cells_answer (bare s) a.piece.now b) = c.take-Cells.ensures.0 ∙ rw c.outline-outline.ensures in
-    (c.after.ensures ∙ ap (λ (g : Given). counted s g) e ∙ w.0, c.take-Cells.ensures.1 ∙ rw c.outline-outline.ensures w.1)
+    let e : c.take_cells-given.result ≡ given_of (cells_answer (bare s) a.piece.now b) = c.take_cells-given.ensures.value ∙ rw c.outline-outline.ensures in
+    record { value = c.after.ensures ∙ ap (λ (g : Given). counted s g) e ∙ w.0; scratch_after = c.take_cells-given.ensures.scratch_after ∙ rw c.outline-outline.ensures w.1 }

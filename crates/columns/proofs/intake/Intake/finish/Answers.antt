@@ -12,4 +12,4 @@ returns c =
     let s = c.args.self in
     let b = cols c.args.copies.now c.args.scratch.now in
     let e : c.take_finish-given.result ≡ given_of (finish_answer s b) = c.take_finish-given.ensures.value ∙ rw c.outline-outline.ensures in
-    (c.after.ensures ∙ ap (λ (g : Given). counted s g) e ∙ finish_whole s b, c.take_finish-given.ensures.copies_after ∙ rw c.outline-outline.ensures)
+    record { value = c.after.ensures ∙ ap (λ (g : Given). counted s g) e ∙ finish_whole s b; copies_after = c.take_finish-given.ensures.copies_after ∙ rw c.outline-outline.ensures }

@@ -12,4 +12,4 @@ returns c =
     let ws = c.args.piece.now in
     let b = c.args.constants.now in
     let e : c.take_rows-told.result ≡ marked_of (rows_answer s ws b) = c.take_rows-told.ensures.value ∙ rw c.outline-outline.ensures in
-    (ap (λ (g : Marked). remarked s g) e ∙ rows_whole s ws b, c.take_rows-told.ensures.constants_after ∙ rw c.outline-outline.ensures)
+    record { value = ap (λ (g : Marked). remarked s g) e ∙ rows_whole s ws b; constants_after = c.take_rows-told.ensures.constants_after ∙ rw c.outline-outline.ensures }

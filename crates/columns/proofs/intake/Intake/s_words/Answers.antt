@@ -13,4 +13,4 @@ returns c =
     let b = a.constants.now in
     let w = words_whole s a.piece.now b in
     let e : c.take_s_words-given.result ≡ given_of (s_words_answer (bare s) a.piece.now b) = c.take_s_words-given.ensures.value ∙ rw c.outline-outline.ensures in
-    (c.after.ensures ∙ ap (λ (g : Given). counted s g) e ∙ w.0, c.take_s_words-given.ensures.constants_after ∙ rw c.outline-outline.ensures w.1)
+    record { value = c.after.ensures ∙ ap (λ (g : Given). counted s g) e ∙ w.0; constants_after = c.take_s_words-given.ensures.constants_after ∙ rw c.outline-outline.ensures w.1 }

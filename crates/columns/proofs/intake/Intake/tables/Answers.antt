@@ -13,4 +13,4 @@ returns c =
     let b = a.tables.now in
     let w = tables_whole s a.piece.now b in
     let e : c.take_tables-given.result ≡ given_of (tables_answer (bare s) a.piece.now b) = c.take_tables-given.ensures.value ∙ rw c.outline-outline.ensures in
-    (c.after.ensures ∙ ap (λ (g : Given). counted s g) e ∙ w.0, c.take_tables-given.ensures.tables_after ∙ rw c.outline-outline.ensures w.1)
+    record { value = c.after.ensures ∙ ap (λ (g : Given). counted s g) e ∙ w.0; tables_after = c.take_tables-given.ensures.tables_after ∙ rw c.outline-outline.ensures w.1 }
