@@ -1,16 +1,16 @@
 -- `field::fold` meets its contract. Each step may pass 0 or 2 ^ 64, and is brought back by a multiple of p.
-use Rattle.std.proofs.Common.{◌≡◌, ◌+◌, ◌/◌, ◌^◌, ◌<◌, ◌⊎◌, inl, inr, ⊎_elim, arith}
+use Rattle.std.proofs.Common.{◌≡◌, ◌+◌, ◌/◌, ◌^◌, ◌<◌, ◌⊎◌, inl, inr, arith}
 use Rattle.field.specs.Field.{p}
 use Rattle.field.proofs.Wide.{steps}
-use Rattle.field.proofs.fold.Goals.{Joined-l-hh}
+use Rattle.field.proofs.fold.Goals.{Joined-l-hh, then-l-hh, else-l-hh}
 use Rattle.field.proofs.fold.Goals as goal
 
 -- the difference, and that it is a word
 difference : (c : Joined-l-hh) → (c.if-l-hh.t + c.args.h / 2 ^ 32 ≡ c.args.l + p) ⊎ (c.if-l-hh.t + c.args.h / 2 ^ 32 ≡ c.args.l)
-difference c = ⊎_elim (λ w. inl (omega arith)) (λ w. inr (omega arith)) c.if-l-hh.branch
+difference c = elim c.if-l-hh.branch [ then-l-hh w ↦ inl (omega arith) | else-l-hh w ↦ inr (omega arith) ]
 
 word : (c : Joined-l-hh) → c.if-l-hh.t < 2 ^ 64
-word c = ⊎_elim (λ w. omega arith) (λ w. omega arith) c.if-l-hh.branch
+word c = elim c.if-l-hh.branch [ then-l-hh w ↦ omega arith | else-l-hh w ↦ omega arith ]
 
 pub returns-then-s-m : goal.returns-then-s-m
 returns-then-s-m c =

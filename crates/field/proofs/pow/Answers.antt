@@ -1,10 +1,11 @@
 -- `field::pow` meets its contract. The loop's invariant: the result is below p, and times the base to what is left of the exponent it is the power. The measure is what is left of it.
-use Rattle.std.proofs.Common.{◌≡◌, ℕ, ◌*◌, ◌/◌, ◌%◌, ◌^◌, ◌<◌, sym, refl, ap, ◌∙◌, ⊎_elim, mod-eq_of_lt, one-mul, mul-one, arith}
+use Rattle.std.proofs.Common.{◌≡◌, ℕ, ◌*◌, ◌/◌, ◌%◌, ◌^◌, ◌<◌, sym, refl, ap, ◌∙◌, mod-eq_of_lt, one-mul, mul-one, arith}
 use Rattle.std.proofs.Math.Nat.{pow-zero, mod-mod}
 use Rattle.base.specs.Modular.{same_turn}
 use Rattle.base.specs.Powers.{pow-one, square_turn}
 use Rattle.field.specs.Field.{p, fmul, fpow}
 use Rattle.field.specs.FieldLaws.{fmul_below}
+use Rattle.field.proofs.pow.Goals.{then-e-eq1, else-e-eq1}
 use Rattle.field.proofs.pow.Goals as goal
 
 -- a turn at an odd exponent and at an even one
@@ -27,10 +28,10 @@ loop-e-init c = (omega arith, rw one-mul)
 pub loop-e-preserved : goal.loop-e-preserved
 loop-e-preserved c =
     let l = c.loop-e in
-    ⊎_elim
-    (λ w. rw (w.2, w.1.ensures, c.mul-b.ensures) (fmul_below l.r l.b, odd l.r l.b l.e w.0.taken ∙ l.invariant.1))
-    (λ w. rw (w.1, c.mul-b.ensures) (l.invariant.0, even l.r l.b l.e (omega arith) ∙ l.invariant.1))
-    c.if-e-eq1.branch
+    elim c.if-e-eq1.branch [
+      then-e-eq1 w ↦ rw (w.r-is, w.mul-r.ensures, c.mul-b.ensures) (fmul_below l.r l.b, odd l.r l.b l.e w.if-e-eq1.true ∙ l.invariant.1)
+    | else-e-eq1 w ↦ rw (w.r-is, c.mul-b.ensures) (l.invariant.0, even l.r l.b l.e (omega arith) ∙ l.invariant.1)
+    ]
 
 pub returns : goal.returns
 returns c =

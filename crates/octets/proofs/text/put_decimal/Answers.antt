@@ -9,4 +9,4 @@ pub returns : goal.returns
 returns c =
     let d = c.decimal-many in
     let a = c.args in
-    c.put_bytes.ensures ∙ ap (put (sink a.out.now a.at)) (d.ensures.1.1 ∙ fewest_decimal a.number d.result (omega arith) d.ensures.1.0)
+    c.put_bytes.ensures ∙ ap (put (sink a.out.now a.at)) (d.ensures.digits ∙ fewest_decimal a.number d.result (omega arith) d.ensures.len)
