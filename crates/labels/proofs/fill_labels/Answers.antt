@@ -8,35 +8,36 @@ use Rattle.labels.specs.RangesLaws.{Ranges, ranges-fit, cells_fit}
 use Rattle.labels.specs.Labels.{representatives_number, representatives_of, label_of, fill_number, labels_written}
 use Rattle.labels.specs.Filling.{all_columns, half_turn}
 use Rattle.labels.specs.LabelLaws.{column-zero, fill-number, written_is, written_refused}
-use Rattle.labels.proofs.fill_labels.Goals.{Then-ranges_fit}
 use Rattle.labels.proofs.fill_labels.Goals as goal
 
-fits : (c : Then-ranges_fit) → ranges_fit c.args.n c.args.c ≡ true
-fits c = sym c.ranges_fit.ensures ∙ c.if-ranges_fit.true
-
-ranges : (c : Then-ranges_fit) → Ranges c.args.n c.args.c
-ranges c = ranges-fit c.args.n c.args.c (fits c)
-
 pub overflow_mul-c : goal.overflow_mul-c
-overflow_mul-c c = omega (arith, cells_fit c.args.n c.args.c (ranges c))
+overflow_mul-c c =
+    let fits : ranges_fit c.args.n c.args.c ≡ true = sym c.ranges_fit.ensures ∙ c.if-ranges_fit.true in
+    let ranges : Ranges c.args.n c.args.c = ranges-fit c.args.n c.args.c (fits) in
+    omega (arith, cells_fit c.args.n c.args.c (ranges))
 
 pub returns-then-found-ne0 : goal.returns-then-found-ne0
 returns-then-found-ne0 c =
+    let fits : ranges_fit c.args.n c.args.c ≡ true = sym c.ranges_fit.ensures ∙ c.if-ranges_fit.true in
     let a = c.args in
     let e = c.representatives-found.ensures.number_value in
-    let same = fill-number a.n a.c a.copies.now (fits c.before.before.before.before) c.if-c-n.true in
+    let same = fill-number a.n a.c a.copies.now (fits) c.if-c-n.true in
     let d : fill_number a.n a.c a.copies.now ≢ 0 = λ z. c.if-found-ne0.true (e ∙ sym same ∙ z) in
     record { value = e ∙ sym same; copies_after = sym (written_refused a.n a.c a.copies.now d) }
 
 pub materialize_x_poly-requires : goal.materialize_x_poly-requires
 materialize_x_poly-requires c =
+    let fits : ranges_fit c.args.n c.args.c ≡ true = sym c.ranges_fit.ensures ∙ c.if-ranges_fit.true in
+    let ranges : Ranges c.args.n c.args.c = ranges-fit c.args.n c.args.c (fits) in
     let a = c.args in
-    (omega (arith, c.if-c-n.true, mul-le-mul_right a.n (ranges c.before.before.before.before.before.before).some-column), half_turn a.n a.c (ranges c.before.before.before.before.before.before))
+    (omega (arith, c.if-c-n.true, mul-le-mul_right a.n (ranges).some-column), half_turn a.n a.c (ranges))
 
 pub materialize_x_by_non_residue_polys-requires : goal.materialize_x_by_non_residue_polys-requires
 materialize_x_by_non_residue_polys-requires c =
+    let fits : ranges_fit c.args.n c.args.c ≡ true = sym c.ranges_fit.ensures ∙ c.if-ranges_fit.true in
+    let ranges : Ranges c.args.n c.args.c = ranges-fit c.args.n c.args.c (fits) in
     let a = c.args in
-    let r = ranges c.before.before.before.before.before.before.before.before.before.before.before in
+    let r = ranges in
     let first = c.materialize_x_poly.ensures in (
       record {
         some = r.some-column;
@@ -49,23 +50,26 @@ materialize_x_by_non_residue_polys-requires c =
 
 pub returns-then-c-n : goal.returns-then-c-n
 returns-then-c-n c =
+    let fits : ranges_fit c.args.n c.args.c ≡ true = sym c.ranges_fit.ensures ∙ c.if-ranges_fit.true in
+    let ranges : Ranges c.args.n c.args.c = ranges-fit c.args.n c.args.c (fits) in
     let a = c.args in
     let n = a.n in
     let old = a.copies.now in
     let reps = representatives_of n a.c in
     let g = c.representatives-found.ensures in
-    let same = fill-number n a.c old (fits c.before.before.before.before.before.before.before.before.before.before.before.before.before.before) c.if-c-n.true in
-    let z : representatives_number n a.c ≡ 0 = sym g.0 ∙ c.if-found-ne0.false in
+    let same = fill-number n a.c old (fits) c.if-c-n.true in
+    let z : representatives_number n a.c ≡ 0 = sym g.number_value ∙ c.if-found-ne0.false in
     let first = c.materialize_x_poly.ensures in
-    let rest = rw g.1.0 at c.materialize_x_by_non_residue_polys.ensures in
-    let whole = all_columns n a.c reps old _ _ (ranges c.before.before.before.before.before.before.before.before.before.before.before.before.before.before).some-column (column-zero n a.c z) first rest in record { value = sym (same ∙ z); copies_after = filled_list (label_of n reps) (a.c * n) old _ c.if-c-n.true whole ∙ sym (written_is n a.c old (same ∙ z)) }
+    let rest = rw g.values_value at c.materialize_x_by_non_residue_polys.ensures in
+    let whole = all_columns n a.c reps old _ _ (ranges).some-column (column-zero n a.c z) first rest in record { value = sym (same ∙ z); copies_after = filled_list (label_of n reps) (a.c * n) old _ c.if-c-n.true whole ∙ sym (written_is n a.c old (same ∙ z)) }
 
 pub returns-then-ranges_fit : goal.returns-then-ranges_fit
 unfolding fill_number labels_written
 returns-then-ranges_fit c =
+    let fits : ranges_fit c.args.n c.args.c ≡ true = sym c.ranges_fit.ensures ∙ c.if-ranges_fit.true in
     let a = c.args in
     let short = lt-leb (a.c * a.n) (length a.copies.now) c.if-c-n.false in
-    let t = fits c.before in
+    let t = fits in
     record { value = simp (t, short); copies_after = simp (t, short) }
 
 pub returns : goal.returns

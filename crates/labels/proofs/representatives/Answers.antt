@@ -35,7 +35,7 @@ returns-then-found-c c =
     let e = ap (λ (f : NonResidues). f.kept) c.make_non_residues-found.ensures in
     let l : length (found a.n a.c).values < a.c = omega (arith, e, c.if-found-c.true) in
     let z : representatives_number a.n a.c ≡ candidates_reach_p = simp (t, lt-ltb _ _ l) in
-    let both = refused a.n a.c candidates_reach_p _ c.no_representatives.ensures z (λ (q : candidates_reach_p ≡ 0). omega arith) in record { number_value = both.0; values_value = both.1; powers_value = both.2; taken_value = both.3 }
+    let both = refused a.n a.c candidates_reach_p _ c.no_representatives.ensures z (λ (q : candidates_reach_p ≡ 0). omega arith) in record { number_value = both.0; values_value = both.1.0; powers_value = both.1.1.0; taken_value = both.1.1.1 }
 
 pub returns-then-ranges_fit : goal.returns-then-ranges_fit
 unfolding representatives_number search_number
@@ -46,7 +46,7 @@ returns-then-ranges_fit c =
     let e = ap (λ (g : NonResidues). g.kept) f in
     let l : a.c ≤ length (found a.n a.c).values = omega (arith, e, c.if-found-c.false) in
     let z : representatives_number a.n a.c ≡ 0 = simp (t, le-ltb _ _ l) in
-    let both = accepted a.n a.c _ f z in record { number_value = both.0; values_value = both.1; powers_value = both.2; taken_value = both.3 }
+    let both = accepted a.n a.c _ f z in record { number_value = both.0; values_value = both.1.0; powers_value = both.1.1.0; taken_value = both.1.1.1 }
 
 pub returns : goal.returns
 unfolding representatives_number
@@ -54,4 +54,4 @@ returns c =
     let a = c.args in
     let t : ranges_fit a.n a.c ≡ false = sym c.ranges_fit.ensures ∙ c.if-ranges_fit.false in
     let z : representatives_number a.n a.c ≡ out_of_range = simp t in
-    let both = refused a.n a.c out_of_range _ c.no_representatives-2.ensures z (λ (q : out_of_range ≡ 0). omega arith) in record { number_value = both.0; values_value = both.1; powers_value = both.2; taken_value = both.3 }
+    let both = refused a.n a.c out_of_range _ c.no_representatives-2.ensures z (λ (q : out_of_range ≡ 0). omega arith) in record { number_value = both.0; values_value = both.1.0; powers_value = both.1.1.0; taken_value = both.1.1.1 }

@@ -6,7 +6,7 @@ use Rattle.claim.specs.Chain.{Kept, answer, left}
 use Rattle.calls.specs.Encoded.{Ran, call_by}
 use Rattle.calls.specs.EncodedLaws.{Fits, ran_20, ran_10, turn_start, turn_fits, turn_next, turn_end}
 use Rattle.calls.proofs.list.run_calls.Invariants.{within}
-use Rattle.calls.proofs.list.run_calls.Goals.{After-shared_slice_known-in-loop-at-1, At-loop-at, In-loop-at, Start}
+use Rattle.calls.proofs.list.run_calls.Goals.{At-loop-at, In-loop-at, Start}
 use Rattle.calls.proofs.list.run_calls.Goals as goal
 
 -- what is kept at the start
@@ -29,21 +29,17 @@ there c =
     let l = c.loop-at in
     turn_fits a.list.now (start c.before.before.before.before.before.before.before.before.before.before.before.before.before.before.before) a.numbers.now l.at l.place (kept c.before) l.numbers l.invariant.6 (omega arith)
 
--- the numbers are no more than the list's words
-small : (c : After-shared_slice_known-in-loop-at-1) → (c.loop-at.place + 1) * 8 < 18446744073709551616
-small c = omega (arith, c.loop-at.invariant.7)
-
 pub returns-then-counted-lt1 : goal.returns-then-counted-lt1
 returns-then-counted-lt1 c =
     let a = c.args in
     let e = ran_20 a.list.now (start c.before.before.before.before.before.before.before.before.before.before.before.before) a.numbers.now c.count_calls-counted.result c.count_calls-counted.ensures c.if-counted-lt1.true in
-    (c.give.ensures ∙ sym (ap (λ (y : Ran). marked_of y.answer) e), (sym (ap (λ (y : Ran). y.store) e), sym (ap (λ (y : Ran). y.numbers) e)))
+    record { value = c.give.ensures ∙ sym (ap (λ (y : Ran). marked_of y.answer) e); tables_after = sym (ap (λ (y : Ran). y.store) e); numbers_after = sym (ap (λ (y : Ran). y.numbers) e) }
 
 pub returns-then-numbers-counted : goal.returns-then-numbers-counted
 returns-then-numbers-counted c =
     let a = c.args in
     let e = ran_10 a.list.now (start c.before.before.before.before.before.before.before.before.before.before.before.before.before.before) a.numbers.now c.count_calls-counted.result c.count_calls-counted.ensures (omega arith) c.if-numbers-counted.true in
-    (c.give-then-numbers-counted.ensures ∙ sym (ap (λ (y : Ran). marked_of y.answer) e), (sym (ap (λ (y : Ran). y.store) e), sym (ap (λ (y : Ran). y.numbers) e)))
+    record { value = c.give-then-numbers-counted.ensures ∙ sym (ap (λ (y : Ran). marked_of y.answer) e); tables_after = sym (ap (λ (y : Ran). y.store) e); numbers_after = sym (ap (λ (y : Ran). y.numbers) e) }
 
 pub loop-at-init : goal.loop-at-init
 loop-at-init c =
@@ -72,13 +68,17 @@ pub slice_bounds-one_call-end : goal.slice_bounds-one_call-end
 slice_bounds-one_call-end c = omega (arith, (there c.before.before).0.piece)
 
 pub offset_bounds-numbers-place : goal.offset_bounds-numbers-place
-offset_bounds-numbers-place c = omega (arith, small c.before.before.before.before.before.before.before.before.before.before.before.before.before.before.before)
+offset_bounds-numbers-place c =
+    let small : (c.loop-at.place + 1) * 8 < 18446744073709551616 = omega (arith, c.loop-at.invariant.7) in
+    omega (arith, small)
 
 pub bounds-numbers-place : goal.bounds-numbers-place
 bounds-numbers-place c = (there c.before.before.before.before.before.before.before.before.before.before.before.before.before.before.before.before).1
 
 pub overflow_add-place : goal.overflow_add-place
-overflow_add-place c = omega (arith, small c.before.before.before.before.before.before.before.before.before.before.before.before.before.before.before.before.before)
+overflow_add-place c =
+    let small : (c.loop-at.place + 1) * 8 < 18446744073709551616 = omega (arith, c.loop-at.invariant.7) in
+    omega (arith, small)
 
 pub loop-at-smaller : goal.loop-at-smaller
 loop-at-smaller c = omega (arith, (there c.before.before.before.before.before.before.before.before.before.before.before.before.before.before.before.before.before.before).0.piece)
@@ -122,4 +122,4 @@ returns c =
     let a = c.args in
     let l = c.loop-at in
     let e = turn_end a.list.now (start c.before.before.before.before.before.before.before.before.before.before.before.before.before.before.before.before) a.numbers.now l.at l.place (kept c.before.before) l.numbers l.invariant.6 (omega arith) in
-    (c.give-2.ensures ∙ sym (ap (λ (y : Ran). marked_of y.answer) e), (sym (ap (λ (y : Ran). y.store) e), sym (ap (λ (y : Ran). y.numbers) e)))
+    record { value = c.give-2.ensures ∙ sym (ap (λ (y : Ran). marked_of y.answer) e); tables_after = sym (ap (λ (y : Ran). y.store) e); numbers_after = sym (ap (λ (y : Ran). y.numbers) e) }

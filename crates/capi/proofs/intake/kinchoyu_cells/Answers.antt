@@ -4,26 +4,25 @@ use Rattle.pieces.specs.Setting.{cols}
 use Rattle.encoding.specs.Encoding.{state_length}
 use Rattle.encoding.specs.Held.{holds}
 use Rattle.capi.specs.IntakeLaws.{cells_back, cells_none}
-use Rattle.capi.proofs.intake.kinchoyu_cells.Goals.{Then-held}
 use Rattle.capi.proofs.intake.kinchoyu_cells.Goals as goal
 
--- the words are as many as a state's
-long : (c : Then-held) → length c.args.state.now ≡ state_length
-long c = (holds c.args.state.now c.held_at-held.result c.held_at-held.ensures c.if-held.true).long
-
 pub slice_bounds-gates-end : goal.slice_bounds-gates-end
-slice_bounds-gates-end c = omega (arith, long c.before.before)
+slice_bounds-gates-end c =
+    let long : length c.args.state.now ≡ state_length = (holds c.args.state.now c.held_at-held.result c.held_at-held.ensures c.if-held.true).long in
+    omega (arith, long)
 
 pub slice_bounds-nodes-end : goal.slice_bounds-nodes-end
-slice_bounds-nodes-end c = omega (arith, long c.before.before.before)
+slice_bounds-nodes-end c =
+    let long : length c.args.state.now ≡ state_length = (holds c.args.state.now c.held_at-held.result c.held_at-held.ensures c.if-held.true).long in
+    omega (arith, long)
 
 pub returns-then-held : goal.returns-then-held
 returns-then-held c =
     let a = c.args in
     let b = cols a.copies.now a.scratch.now in
-    let both = cells_back a.state.now c.held_at-held.result c.held_at-held.ensures c.if-held.true a.piece.now b c.take_cells-given.result _ _ _ c.take_cells-given.ensures.value c.take_cells-given.ensures.scratch_after c.give_back.ensures.value c.give_back.ensures.state_after in record { value = both.0; state_after = both.1; scratch_after = both.2 }
+    let both = cells_back a.state.now c.held_at-held.result c.held_at-held.ensures c.if-held.true a.piece.now b c.take_cells-given.result _ _ _ c.take_cells-given.ensures.value c.take_cells-given.ensures.scratch_after c.give_back.ensures.value c.give_back.ensures.state_after in record { value = both.0; state_after = both.1.0; scratch_after = both.1.1 }
 
 pub returns : goal.returns
 returns c =
     let a = c.args in
-    let both = cells_none a.state.now c.held_at-held.result c.held_at-held.ensures c.if-held.false a.piece.now (cols a.copies.now a.scratch.now) in record { value = both.0; state_after = both.1; scratch_after = both.2 }
+    let both = cells_none a.state.now c.held_at-held.result c.held_at-held.ensures c.if-held.false a.piece.now (cols a.copies.now a.scratch.now) in record { value = both.0; state_after = both.1.0; scratch_after = both.1.1 }

@@ -4,26 +4,25 @@ use Rattle.pieces.specs.Setting.{cols}
 use Rattle.encoding.specs.Encoding.{state_length}
 use Rattle.encoding.specs.Held.{holds}
 use Rattle.capi.specs.IntakeLaws.{finish_back, finish_none}
-use Rattle.capi.proofs.intake.kinchoyu_finish.Goals.{Then-held}
 use Rattle.capi.proofs.intake.kinchoyu_finish.Goals as goal
 
--- the words are as many as a state's
-long : (c : Then-held) → length c.args.state.now ≡ state_length
-long c = (holds c.args.state.now c.held_at-held.result c.held_at-held.ensures c.if-held.true).long
-
 pub slice_bounds-gates-end : goal.slice_bounds-gates-end
-slice_bounds-gates-end c = omega (arith, long c.before.before.before)
+slice_bounds-gates-end c =
+    let long : length c.args.state.now ≡ state_length = (holds c.args.state.now c.held_at-held.result c.held_at-held.ensures c.if-held.true).long in
+    omega (arith, long)
 
 pub slice_bounds-nodes-end : goal.slice_bounds-nodes-end
-slice_bounds-nodes-end c = omega (arith, long c.before.before.before.before)
+slice_bounds-nodes-end c =
+    let long : length c.args.state.now ≡ state_length = (holds c.args.state.now c.held_at-held.result c.held_at-held.ensures c.if-held.true).long in
+    omega (arith, long)
 
 pub returns-then-held : goal.returns-then-held
 returns-then-held c =
     let a = c.args in
     let b = cols a.copies.now a.scratch.now in
-    let both = finish_back a.state.now c.held_at-held.result c.held_at-held.ensures c.if-held.true _ c.marks_of-used.ensures b c.take_finish-given.result _ _ _ c.take_finish-given.ensures.value c.take_finish-given.ensures.copies_after c.give_back.ensures.value c.give_back.ensures.state_after in record { value = both.0; state_after = both.1; copies_after = both.2 }
+    let both = finish_back a.state.now c.held_at-held.result c.held_at-held.ensures c.if-held.true _ c.marks_of-used.ensures b c.take_finish-given.result _ _ _ c.take_finish-given.ensures.value c.take_finish-given.ensures.copies_after c.give_back.ensures.value c.give_back.ensures.state_after in record { value = both.0; state_after = both.1.0; copies_after = both.1.1 }
 
 pub returns : goal.returns
 returns c =
     let a = c.args in
-    let both = finish_none a.state.now c.held_at-held.result c.held_at-held.ensures c.if-held.false (cols a.copies.now a.scratch.now) in record { value = both.0; state_after = both.1; copies_after = both.2 }
+    let both = finish_none a.state.now c.held_at-held.result c.held_at-held.ensures c.if-held.false (cols a.copies.now a.scratch.now) in record { value = both.0; state_after = both.1.0; copies_after = both.1.1 }

@@ -3,26 +3,25 @@ use Rattle.std.proofs.Common.{length, ◌≡◌, arith}
 use Rattle.encoding.specs.Encoding.{state_length}
 use Rattle.encoding.specs.Held.{holds}
 use Rattle.capi.specs.IntakeLaws.{tables_back, tables-none}
-use Rattle.capi.proofs.intake.kinchoyu_tables.Goals.{Then-held}
 use Rattle.capi.proofs.intake.kinchoyu_tables.Goals as goal
 
--- the words are as many as a state's
-long : (c : Then-held) → length c.args.state.now ≡ state_length
-long c = (holds c.args.state.now c.held_at-held.result c.held_at-held.ensures c.if-held.true).long
-
 pub slice_bounds-gates-end : goal.slice_bounds-gates-end
-slice_bounds-gates-end c = omega (arith, long c.before.before)
+slice_bounds-gates-end c =
+    let long : length c.args.state.now ≡ state_length = (holds c.args.state.now c.held_at-held.result c.held_at-held.ensures c.if-held.true).long in
+    omega (arith, long)
 
 pub slice_bounds-nodes-end : goal.slice_bounds-nodes-end
-slice_bounds-nodes-end c = omega (arith, long c.before.before.before)
+slice_bounds-nodes-end c =
+    let long : length c.args.state.now ≡ state_length = (holds c.args.state.now c.held_at-held.result c.held_at-held.ensures c.if-held.true).long in
+    omega (arith, long)
 
 pub returns-then-held : goal.returns-then-held
 returns-then-held c =
     let a = c.args in
     let b = a.tables.now in
-    let both = tables_back a.state.now c.held_at-held.result c.held_at-held.ensures c.if-held.true a.piece.now b c.take_tables-given.result _ _ _ c.take_tables-given.ensures.value c.take_tables-given.ensures.tables_after c.give_back.ensures.value c.give_back.ensures.state_after in record { value = both.0; state_after = both.1; tables_after = both.2 }
+    let both = tables_back a.state.now c.held_at-held.result c.held_at-held.ensures c.if-held.true a.piece.now b c.take_tables-given.result _ _ _ c.take_tables-given.ensures.value c.take_tables-given.ensures.tables_after c.give_back.ensures.value c.give_back.ensures.state_after in record { value = both.0; state_after = both.1.0; tables_after = both.1.1 }
 
 pub returns : goal.returns
 returns c =
     let a = c.args in
-    let both = tables-none a.state.now c.held_at-held.result c.held_at-held.ensures c.if-held.false a.piece.now a.tables.now in record { value = both.0; state_after = both.1; tables_after = both.2 }
+    let both = tables-none a.state.now c.held_at-held.result c.held_at-held.ensures c.if-held.false a.piece.now a.tables.now in record { value = both.0; state_after = both.1.0; tables_after = both.1.1 }

@@ -13,4 +13,4 @@ returns c =
     let a = c.args in
     let e = c.label-label.ensures in
     let k = label_taken a.n a.c a.cell a.out.now c.if-out-lt1.false in
-    record { value = e.0 ∙ k.0; out_after = ap (set a.out.now 0) e.1 ∙ k.1 }
+    record { value = e.number_value ∙ k.0; out_after = ap (set a.out.now 0) e.value_value ∙ k.1 }

@@ -7,33 +7,30 @@ use Rattle.encoding.specs.Held.{Plans, plans, plans_none}
 use Rattle.writer.specs.Hand.{handed}
 use Rattle.capi.specs.Planning.{path_words}
 use Rattle.capi.specs.PlanningLaws.{path_called, path_none}
-use Rattle.capi.proofs.planning.kinchoyu_path.Goals.{Else-held, Then-held}
 use Rattle.capi.proofs.planning.kinchoyu_path.Goals as goal
 
--- what the words hold that hold a plan
-held : (c : Then-held) → Plans c.args.plan.now c.outlined_at-held.result
-held c = plans c.args.plan.now c.outlined_at-held.result c.outlined_at-held.ensures c.if-held.true
-
--- words that hold none have a fault
-none : (c : Else-held) → plan_fault (plan_of c.args.plan.now) ≡ 19
-none c = ap plan_fault (sym (plans_none c.args.plan.now c.outlined_at-held.result c.outlined_at-held.ensures c.if-held.false)) ∙ zero_fault
-
 pub slice_bounds-gates-end : goal.slice_bounds-gates-end
-slice_bounds-gates-end c = omega (arith, (held c.before).long)
+slice_bounds-gates-end c =
+    let held : Plans c.args.plan.now c.outlined_at-held.result = plans c.args.plan.now c.outlined_at-held.result c.outlined_at-held.ensures c.if-held.true in
+    omega (arith, (held).long)
 
 pub slice_bounds-nodes-end : goal.slice_bounds-nodes-end
-slice_bounds-nodes-end c = omega (arith, (held c.before.before).long)
+slice_bounds-nodes-end c =
+    let held : Plans c.args.plan.now c.outlined_at-held.result = plans c.args.plan.now c.outlined_at-held.result c.outlined_at-held.ensures c.if-held.true in
+    omega (arith, (held).long)
 
 pub returns-then-held : goal.returns-then-held
 returns-then-held c =
+    let held : Plans c.args.plan.now c.outlined_at-held.result = plans c.args.plan.now c.outlined_at-held.result c.outlined_at-held.ensures c.if-held.true in
     let a = c.args in
     let h = c.hand in
     let answer = c.parts_path-path in
     let told : (c.bits-bits.result ∷ c.length-length.result ∷ c.bare-bare.result ∷ []) ≡ path_words answer.result.selection =
     rw (c.bits-bits.ensures, c.length-length.ensures, c.bare-bare.ensures) refl in
-    let both = path_called a.plan.now a.out.now a.gate _ answer.result _ _ (held c.before.before.before.before.before.before.before.before.before.before.before.before.before).parts answer.ensures (h.ensures ∙ ap (λ (ws : List ℕ). handed ws a.out.now) told) c.with_room.ensures h.auto.1.0 in record { value = both.0; out_after = both.1 }
+    let both = path_called a.plan.now a.out.now a.gate _ answer.result _ _ (held).parts answer.ensures (h.ensures ∙ ap (λ (ws : List ℕ). handed ws a.out.now) told) c.with_room.ensures h.auto.1.0 in record { value = both.0; out_after = both.1 }
 
 pub returns : goal.returns
 returns c =
+    let none : plan_fault (plan_of c.args.plan.now) ≡ 19 = ap plan_fault (sym (plans_none c.args.plan.now c.outlined_at-held.result c.outlined_at-held.ensures c.if-held.false)) ∙ zero_fault in
     let a = c.args in
-    let both = path_none a.plan.now a.out.now a.gate _ (λ z. omega (arith, none c.before.before.before.before.before, z)) c.hand-2.ensures in record { value = both.0; out_after = both.1 }
+    let both = path_none a.plan.now a.out.now a.gate _ (λ z. omega (arith, none, z)) c.hand-2.ensures in record { value = both.0; out_after = both.1 }

@@ -3,15 +3,7 @@ use Rattle.std.proofs.Common.{rules, length, ◌≡◌}
 use Rattle.selector.specs.Gates.{gate_slots}
 use Rattle.selector.specs.Nodes.{node_slots}
 use Rattle.capi.specs.PlanningLaws.{plan_10, plan_20, plan-given}
-use Rattle.capi.proofs.planning.kinchoyu_plan.Goals.{After-plan-planned}
 use Rattle.capi.proofs.planning.kinchoyu_plan.Goals as goal
-
--- the arrays of a plan by value have their lengths
-gates-long : (c : After-plan-planned) → length c.plan-planned.result.plan.gates ≡ gate_slots
-gates-long c = search rules
-
-nodes-long : (c : After-plan-planned) → length c.plan-planned.result.plan.nodes ≡ node_slots
-nodes-long c = search rules
 
 pub returns-then-parameters-ne-PARAMETER_WORDS : goal.returns-then-parameters-ne-PARAMETER_WORDS
 returns-then-parameters-ne-PARAMETER_WORDS c =
@@ -25,6 +17,8 @@ returns-then-plan-lt-PLAN_WORDS c =
 
 pub returns : goal.returns
 returns c =
+    let gates-long : length c.plan-planned.result.plan.gates ≡ gate_slots = search rules in
+    let nodes-long : length c.plan-planned.result.plan.nodes ≡ node_slots = search rules in
     let a = c.args in
     let both = plan-given a.parameters.now a.gates.now a.plan.now c.if-parameters-ne-PARAMETER_WORDS.false c.if-plan-lt-PLAN_WORDS.false
-    _ _ _ (gates-long c.before.before.before.before.before) (nodes-long c.before.before.before.before.before) c.parameters_at.ensures c.plan-planned.ensures c.encode_plan-2.ensures in record { value = both.0; plan_after = both.1 }
+    _ _ _ (gates-long) (nodes-long) c.parameters_at.ensures c.plan-planned.ensures c.encode_plan-2.ensures in record { value = both.0; plan_after = both.1 }

@@ -8,33 +8,30 @@ use Rattle.encoding.specs.Held.{Plans, plans, plans_none}
 use Rattle.writer.specs.Hand.{hand_left, hand_number}
 use Rattle.capi.specs.Planning.{id_words}
 use Rattle.capi.specs.PlanningLaws.{id_none, none-handed}
-use Rattle.capi.proofs.planning.kinchoyu_table_id.Goals.{Else-held, Then-held}
 use Rattle.capi.proofs.planning.kinchoyu_table_id.Goals as goal
 
--- what the words hold that hold a plan
-held : (c : Then-held) → Plans c.args.plan.now c.outlined_at-held.result
-held c = plans c.args.plan.now c.outlined_at-held.result c.outlined_at-held.ensures c.if-held.true
-
--- words that hold none have a fault
-none : (c : Else-held) → plan_fault (plan_of c.args.plan.now) ≡ 19
-none c = ap plan_fault (sym (plans_none c.args.plan.now c.outlined_at-held.result c.outlined_at-held.ensures c.if-held.false)) ∙ zero_fault
-
 pub slice_bounds-gates-end : goal.slice_bounds-gates-end
-slice_bounds-gates-end c = omega (arith, (held c.before).long)
+slice_bounds-gates-end c =
+    let held : Plans c.args.plan.now c.outlined_at-held.result = plans c.args.plan.now c.outlined_at-held.result c.outlined_at-held.ensures c.if-held.true in
+    omega (arith, (held).long)
 
 pub slice_bounds-nodes-end : goal.slice_bounds-nodes-end
-slice_bounds-nodes-end c = omega (arith, (held c.before.before).long)
+slice_bounds-nodes-end c =
+    let held : Plans c.args.plan.now c.outlined_at-held.result = plans c.args.plan.now c.outlined_at-held.result c.outlined_at-held.ensures c.if-held.true in
+    omega (arith, (held).long)
 
 pub returns-then-held : goal.returns-then-held
 returns-then-held c =
+    let held : Plans c.args.plan.now c.outlined_at-held.result = plans c.args.plan.now c.outlined_at-held.result c.outlined_at-held.ensures c.if-held.true in
     let a = c.args in
     let t = c.parts_table_id-id in
-    let e : t.result ≡ table_id_answer (plan_of a.plan.now) = t.ensures ∙ ap table_id_answer (held c.before.before.before.before.before.before.before.before.before).parts in
+    let e : t.result ≡ table_id_answer (plan_of a.plan.now) = t.ensures ∙ ap table_id_answer (held).parts in
     let h = c.hand_unless.ensures in
-    let l : _ ≡ hand_left t.result.number (id_words t.result) a.out.now = h.1 in record { value = h.0 ∙ ap (λ (x : TableId). hand_number x.number (id_words x) a.out.now) e; out_after = l ∙ ap (λ (x : TableId). hand_left x.number (id_words x) a.out.now) e }
+    let l : _ ≡ hand_left t.result.number (id_words t.result) a.out.now = h.out_after in record { value = h.value ∙ ap (λ (x : TableId). hand_number x.number (id_words x) a.out.now) e; out_after = l ∙ ap (λ (x : TableId). hand_left x.number (id_words x) a.out.now) e }
 
 pub returns : goal.returns
 returns c =
+    let none : plan_fault (plan_of c.args.plan.now) ≡ 19 = ap plan_fault (sym (plans_none c.args.plan.now c.outlined_at-held.result c.outlined_at-held.ensures c.if-held.false)) ∙ zero_fault in
     let a = c.args in
     let t = table_id_answer (plan_of a.plan.now) in
-    let both = none-handed t.number (id_words t) a.out.now (id_none (plan_of a.plan.now) (λ z. omega (arith, none c, z))) in record { value = both.0; out_after = both.1 }
+    let both = none-handed t.number (id_words t) a.out.now (id_none (plan_of a.plan.now) (λ z. omega (arith, none, z))) in record { value = both.0; out_after = both.1 }

@@ -14,7 +14,7 @@ use Rattle.columns.specs.GivenLaws.{small}
 use Rattle.columns.specs.Intake.{setting_of, store_of}
 use Rattle.columns.specs.IntakeLaws.{short_room, long_room, open_19, open_10, open_own, opened_long, open_refused, open_taken}
 use Rattle.columns.specs.Rooms.{RoomsOf, Small}
-use Rattle.columns.proofs.opening.open_parts.Goals.{After-fill_labels-number, After-room_number-short, After-rooms_of-rooms, Else-parts_fault-ne0, Else-short-ne0, Start}
+use Rattle.columns.proofs.opening.open_parts.Goals.{Start}
 use Rattle.columns.proofs.opening.open_parts.Goals as goal
 
 -- the plan that the parts are, and the four lent buffers
@@ -24,35 +24,10 @@ plan c = plan_in c.args.outline c.args.gates.now c.args.nodes.now
 abbrev store : Start → Store
 store c = store_of c.args.constants.now c.args.copies.now c.args.scratch.now c.args.tables.now
 
-fine : (c : Else-parts_fault-ne0) → plan_fault (plan c) ≡ 0
-fine c = sym c.parts_fault.ensures ∙ c.if-parts_fault-ne0.false
-
-few : (c : Else-parts_fault-ne0) → Small c.args.outline
-few c = let a = c.args in small a.outline a.gates.now a.nodes.now (fine c)
-
-short-is : (c : After-room_number-short) → c.room_number-short.result ≡ pick (room_to_open (setting_of (plan c)) (store c)) 0 10
-short-is c = let a = c.args in c.room_number-short.ensures a.gates.now a.nodes.now
-
--- every buffer has its named words
-room : (c : Else-short-ne0) → room_to_open (setting_of (plan c)) (store c) ≡ true
-room c = long_room (room_to_open (setting_of (plan c.before.before.before.before.before.before.before.before.before.before.before.before.before.before)) (store c.before.before.before.before.before.before.before.before.before.before.before.before.before.before)) c.room_number-short.result (short-is c.before) c.if-short-ne0.false
-
 -- with the ranges and the room that opening has tested, the labels' number is the search's
 fill_is : (n k : ℕ) (copies : List ℕ) → ranges_fit n k ≡ true → k * n ≤ length copies → fill_number n k copies ≡ search_number n k
 unfolding fill_number
 fill_is n k copies r h = rw (r, le-leb (k * n) (length copies) h)
-
--- opening's number is the labels'
-number_is : (c : After-fill_labels-number) → open_number (setting_of (plan c)) (store c) ≡ c.fill_labels-number.result
-number_is c =
-    let q = plan c.before.before.before.before.before.before.before.before.before.before.before.before.before.before.before.before in
-    let b = store c.before.before.before.before.before.before.before.before.before.before.before.before.before.before.before.before in
-    let f = fine c.before.before.before.before in
-    let r = room c.before.before in
-    open_own q b f r ∙ sym (c.fill_labels-number.ensures.value ∙ fill_is q.trace q.copy b.cells.copies (sound q f).ranges_fit_too (opened_long q b r).1)
-
-rooms-are : (c : After-rooms_of-rooms) → RoomsOf (setting_of (plan c)) c.rooms_of-rooms.result
-rooms-are c = let a = c.args in c.rooms_of-rooms.ensures a.gates.now a.nodes.now
 
 four : {a a' b b' s s' t t' : List ℕ} → a ≡ a' → b ≡ b' → s ≡ s' → t ≡ t' → store_of a b s t ≡ store_of a' b' s' t'
 four e f g h = cc
@@ -63,50 +38,87 @@ returns-then-parts_fault-ne0 c =
     record { value = sym e; tables_after = (open_refused (plan c) (store c) 19 e (λ z. omega arith)).1 }
 
 pub room_number-short-requires : goal.room_number-short-requires
-room_number-short-requires c = few c
+room_number-short-requires c =
+    let fine : plan_fault (plan c.before.before.before.before.before.before.before.before) ≡ 0 = sym c.parts_fault.ensures ∙ c.if-parts_fault-ne0.false in
+    let few : Small c.args.outline = let a = c.args in small a.outline a.gates.now a.nodes.now (fine) in
+    few
 
 pub returns-then-short-ne0 : goal.returns-then-short-ne0
 returns-then-short-ne0 c =
+    let short-is : c.room_number-short.result ≡ pick (room_to_open (setting_of (plan c.before.before.before.before.before.before.before.before.before.before.before.before.before)) (store c.before.before.before.before.before.before.before.before.before.before.before.before.before)) 0 10 = let a = c.args in c.room_number-short.ensures a.gates.now a.nodes.now in
+    let fine : plan_fault (plan c.before.before.before.before.before.before.before.before) ≡ 0 = sym c.parts_fault.ensures ∙ c.if-parts_fault-ne0.false in
     let q = plan c.before.before.before.before.before.before.before.before.before.before.before.before.before.before in
     let b = store c.before.before.before.before.before.before.before.before.before.before.before.before.before.before in
     let r = c.room_number-short.result in
-    let h = short_room (room_to_open (setting_of q) b) r (short-is c.before) c.if-short-ne0.true in
-    let e = open_10 q b (fine c.before.before) h.0 ∙ sym h.1 in
+    let h = short_room (room_to_open (setting_of q) b) r (short-is) c.if-short-ne0.true in
+    let e = open_10 q b (fine) h.0 ∙ sym h.1 in
     record { value = sym e; tables_after = (open_refused q b r e c.if-short-ne0.true).1 }
 
 pub returns-then-number-ne0 : goal.returns-then-number-ne0
 returns-then-number-ne0 c =
+    let fine : plan_fault (plan c.before.before.before.before.before.before.before.before) ≡ 0 = sym c.parts_fault.ensures ∙ c.if-parts_fault-ne0.false in
+    let short-is : c.room_number-short.result ≡ pick (room_to_open (setting_of (plan c.before.before.before.before.before.before.before.before.before.before.before.before.before)) (store c.before.before.before.before.before.before.before.before.before.before.before.before.before)) 0 10 = let a = c.args in c.room_number-short.ensures a.gates.now a.nodes.now in
+    let room : room_to_open (setting_of (plan c.before.before.before.before.before.before.before.before.before.before.before.before.before.before)) (store c.before.before.before.before.before.before.before.before.before.before.before.before.before.before) ≡ true = long_room (room_to_open (setting_of (plan c.before.before.before.before.before.before.before.before.before.before.before.before.before.before)) (store c.before.before.before.before.before.before.before.before.before.before.before.before.before.before)) c.room_number-short.result (short-is) c.if-short-ne0.false in
+    let number_is : open_number (setting_of (plan c.before.before.before.before.before.before.before.before.before.before.before.before.before.before.before.before)) (store c.before.before.before.before.before.before.before.before.before.before.before.before.before.before.before.before) ≡ c.fill_labels-number.result = let q = plan c.before.before.before.before.before.before.before.before.before.before.before.before.before.before.before.before in
+    let b = store c.before.before.before.before.before.before.before.before.before.before.before.before.before.before.before.before in
+    let f = fine in
+    let r = room in
+    open_own q b f r ∙ sym (c.fill_labels-number.ensures.value ∙ fill_is q.trace q.copy b.cells.copies (sound q f).ranges_fit_too (opened_long q b r).1) in
     let a = c.args in
     let q = plan c.before.before.before.before.before.before.before.before.before.before.before.before.before.before.before.before.before.before.before in
     let b = store c.before.before.before.before.before.before.before.before.before.before.before.before.before.before.before.before.before.before.before in
     let f = c.fill_labels-number in
-    let e = number_is c.before.before.before in
+    let e = number_is in
     let kept = f.ensures.1 ∙ written_refused q.trace q.copy a.copies.now (λ z. c.if-number-ne0.true (f.ensures.0 ∙ z)) in
     record { value = sym e; tables_after = ap (λ (y : List ℕ). store_of a.constants.now y a.scratch.now a.tables.now) kept ∙ (open_refused q b f.result e c.if-number-ne0.true).1 }
 
 pub rooms_of-rooms-requires : goal.rooms_of-rooms-requires
-rooms_of-rooms-requires c = few c.before.before.before.before.before.before.before
+rooms_of-rooms-requires c =
+    let fine : plan_fault (plan c.before.before.before.before.before.before.before.before) ≡ 0 = sym c.parts_fault.ensures ∙ c.if-parts_fault-ne0.false in
+    let few : Small c.args.outline = let a = c.args in small a.outline a.gates.now a.nodes.now (fine) in
+    few
 
 pub clear-requires : goal.clear-requires
-clear-requires c = omega (arith, (opened_long (plan c.before.before.before.before.before.before.before.before.before.before.before.before.before.before.before.before.before.before.before.before.before) (store c.before.before.before.before.before.before.before.before.before.before.before.before.before.before.before.before.before.before.before.before.before) (room c.before.before.before.before.before.before.before)).3, (rooms-are c.before).tables_are)
+clear-requires c =
+    let short-is : c.room_number-short.result ≡ pick (room_to_open (setting_of (plan c.before.before.before.before.before.before.before.before.before.before.before.before.before)) (store c.before.before.before.before.before.before.before.before.before.before.before.before.before)) 0 10 = let a = c.args in c.room_number-short.ensures a.gates.now a.nodes.now in
+    let room : room_to_open (setting_of (plan c.before.before.before.before.before.before.before.before.before.before.before.before.before.before)) (store c.before.before.before.before.before.before.before.before.before.before.before.before.before.before) ≡ true = long_room (room_to_open (setting_of (plan c.before.before.before.before.before.before.before.before.before.before.before.before.before.before)) (store c.before.before.before.before.before.before.before.before.before.before.before.before.before.before)) c.room_number-short.result (short-is) c.if-short-ne0.false in
+    let rooms-are : RoomsOf (setting_of (plan c.before.before.before.before.before.before.before.before.before.before.before.before.before.before.before.before.before.before.before.before)) c.rooms_of-rooms.result = let a = c.args in c.rooms_of-rooms.ensures a.gates.now a.nodes.now in
+    omega (arith, (opened_long (plan c.before.before.before.before.before.before.before.before.before.before.before.before.before.before.before.before.before.before.before.before.before) (store c.before.before.before.before.before.before.before.before.before.before.before.before.before.before.before.before.before.before.before.before.before) (room)).3, (rooms-are).tables_are)
 
 pub clear-requires-2 : goal.clear-requires-2
-clear-requires-2 c = omega (arith, (opened_long (plan c.before.before.before.before.before.before.before.before.before.before.before.before.before.before.before.before.before.before.before.before.before.before.before.before.before) (store c.before.before.before.before.before.before.before.before.before.before.before.before.before.before.before.before.before.before.before.before.before.before.before.before.before) (room c.before.before.before.before.before.before.before.before.before.before.before)).2, (rooms-are c.before.before.before.before.before).scratch_is)
+clear-requires-2 c =
+    let short-is : c.room_number-short.result ≡ pick (room_to_open (setting_of (plan c.before.before.before.before.before.before.before.before.before.before.before.before.before)) (store c.before.before.before.before.before.before.before.before.before.before.before.before.before)) 0 10 = let a = c.args in c.room_number-short.ensures a.gates.now a.nodes.now in
+    let room : room_to_open (setting_of (plan c.before.before.before.before.before.before.before.before.before.before.before.before.before.before)) (store c.before.before.before.before.before.before.before.before.before.before.before.before.before.before) ≡ true = long_room (room_to_open (setting_of (plan c.before.before.before.before.before.before.before.before.before.before.before.before.before.before)) (store c.before.before.before.before.before.before.before.before.before.before.before.before.before.before)) c.room_number-short.result (short-is) c.if-short-ne0.false in
+    let rooms-are : RoomsOf (setting_of (plan c.before.before.before.before.before.before.before.before.before.before.before.before.before.before.before.before.before.before.before.before)) c.rooms_of-rooms.result = let a = c.args in c.rooms_of-rooms.ensures a.gates.now a.nodes.now in
+    omega (arith, (opened_long (plan c.before.before.before.before.before.before.before.before.before.before.before.before.before.before.before.before.before.before.before.before.before.before.before.before.before) (store c.before.before.before.before.before.before.before.before.before.before.before.before.before.before.before.before.before.before.before.before.before.before.before.before.before) (room)).2, (rooms-are).scratch_is)
 
 pub clear-requires-3 : goal.clear-requires-3
-clear-requires-3 c = omega (arith, (opened_long (plan c.before.before.before.before.before.before.before.before.before.before.before.before.before.before.before.before.before.before.before.before.before.before.before.before.before.before.before.before.before) (store c.before.before.before.before.before.before.before.before.before.before.before.before.before.before.before.before.before.before.before.before.before.before.before.before.before.before.before.before.before) (room c.before.before.before.before.before.before.before.before.before.before.before.before.before.before.before)).0, (rooms-are c.before.before.before.before.before.before.before.before.before).constants_are)
+clear-requires-3 c =
+    let short-is : c.room_number-short.result ≡ pick (room_to_open (setting_of (plan c.before.before.before.before.before.before.before.before.before.before.before.before.before)) (store c.before.before.before.before.before.before.before.before.before.before.before.before.before)) 0 10 = let a = c.args in c.room_number-short.ensures a.gates.now a.nodes.now in
+    let room : room_to_open (setting_of (plan c.before.before.before.before.before.before.before.before.before.before.before.before.before.before)) (store c.before.before.before.before.before.before.before.before.before.before.before.before.before.before) ≡ true = long_room (room_to_open (setting_of (plan c.before.before.before.before.before.before.before.before.before.before.before.before.before.before)) (store c.before.before.before.before.before.before.before.before.before.before.before.before.before.before)) c.room_number-short.result (short-is) c.if-short-ne0.false in
+    let rooms-are : RoomsOf (setting_of (plan c.before.before.before.before.before.before.before.before.before.before.before.before.before.before.before.before.before.before.before.before)) c.rooms_of-rooms.result = let a = c.args in c.rooms_of-rooms.ensures a.gates.now a.nodes.now in
+    omega (arith, (opened_long (plan c.before.before.before.before.before.before.before.before.before.before.before.before.before.before.before.before.before.before.before.before.before.before.before.before.before.before.before.before.before) (store c.before.before.before.before.before.before.before.before.before.before.before.before.before.before.before.before.before.before.before.before.before.before.before.before.before.before.before.before.before) (room)).0, (rooms-are).constants_are)
 
 pub shape_of-copies : goal.shape_of-copies
 shape_of-copies c = c.fill_labels-number.auto.copies
 
 pub returns : goal.returns
 returns c =
+    let rooms-are : RoomsOf (setting_of (plan c.before.before.before.before.before.before.before.before.before.before.before.before.before.before.before.before.before.before.before.before)) c.rooms_of-rooms.result = let a = c.args in c.rooms_of-rooms.ensures a.gates.now a.nodes.now in
+    let fine : plan_fault (plan c.before.before.before.before.before.before.before.before) ≡ 0 = sym c.parts_fault.ensures ∙ c.if-parts_fault-ne0.false in
+    let short-is : c.room_number-short.result ≡ pick (room_to_open (setting_of (plan c.before.before.before.before.before.before.before.before.before.before.before.before.before)) (store c.before.before.before.before.before.before.before.before.before.before.before.before.before)) 0 10 = let a = c.args in c.room_number-short.ensures a.gates.now a.nodes.now in
+    let room : room_to_open (setting_of (plan c.before.before.before.before.before.before.before.before.before.before.before.before.before.before)) (store c.before.before.before.before.before.before.before.before.before.before.before.before.before.before) ≡ true = long_room (room_to_open (setting_of (plan c.before.before.before.before.before.before.before.before.before.before.before.before.before.before)) (store c.before.before.before.before.before.before.before.before.before.before.before.before.before.before)) c.room_number-short.result (short-is) c.if-short-ne0.false in
+    let number_is : open_number (setting_of (plan c.before.before.before.before.before.before.before.before.before.before.before.before.before.before.before.before)) (store c.before.before.before.before.before.before.before.before.before.before.before.before.before.before.before.before) ≡ c.fill_labels-number.result = let q = plan c.before.before.before.before.before.before.before.before.before.before.before.before.before.before.before.before in
+    let b = store c.before.before.before.before.before.before.before.before.before.before.before.before.before.before.before.before in
+    let f = fine in
+    let r = room in
+    open_own q b f r ∙ sym (c.fill_labels-number.ensures.value ∙ fill_is q.trace q.copy b.cells.copies (sound q f).ranges_fit_too (opened_long q b r).1) in
     let a = c.args in
     let q = plan c.before.before.before.before.before.before.before.before.before.before.before.before.before.before.before.before.before.before.before.before.before.before.before.before.before.before.before.before.before.before.before.before in
     let f = c.fill_labels-number in
     let z = c.if-number-ne0.false in
-    let r = rooms-are c.before.before.before.before.before.before.before.before.before.before.before.before in
-    let e = number_is c.before.before.before.before.before.before.before.before.before.before.before.before.before.before.before.before ∙ z in
+    let r = rooms-are in
+    let e = number_is ∙ z in
     let labelled = f.ensures.1 ∙ written_is q.trace q.copy a.copies.now (sym f.ensures.0 ∙ z) in
     let constants = c.clear-3.ensures ∙ ap (λ (n : ℕ). cleared n a.constants.now) r.constants_are in
     let scratch = c.clear-2.ensures ∙ ap (λ (n : ℕ). cleared n a.scratch.now) r.scratch_is in

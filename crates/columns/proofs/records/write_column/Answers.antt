@@ -2,14 +2,7 @@
 use Rattle.std.proofs.Common.{◌≡◌, refl, sym, ◌∙◌, add-zero, arith, ◌+◌, ◌-◌, ◌<◌, length, length-set}
 use Rattle.columns.specs.Lines.{strided_turn, strided_done}
 use Rattle.columns.proofs.Strides.{stride_begin, stride_in, stride_next}
-use Rattle.columns.proofs.records.write_column.Goals.{In-loop-i}
 use Rattle.columns.proofs.records.write_column.Goals as goal
-
--- the present place is in the words
-inside : (c : In-loop-i) → c.loop-i.place < length c.args.words.now
-inside c =
-    let l = c.loop-i in
-    stride_in c.args.many c.args.step _ l.i l.place l.invariant.0 c.loop-i-test.true
 
 pub loop-i-init : goal.loop-i-init
 loop-i-init c =
@@ -18,10 +11,16 @@ loop-i-init c =
     (stride_begin a.many a.step (length a.words.now) a.from c.requires.1, refl, rw (z, add-zero))
 
 pub offset_bounds-words-place : goal.offset_bounds-words-place
-offset_bounds-words-place c = omega (arith, inside c)
+offset_bounds-words-place c =
+    let inside : c.loop-i.place < length c.args.words.now = let l = c.loop-i in
+    stride_in c.args.many c.args.step _ l.i l.place l.invariant.0 c.loop-i-test.true in
+    omega (arith, inside)
 
 pub bounds-words-place : goal.bounds-words-place
-bounds-words-place c = inside c.before
+bounds-words-place c =
+    let inside : c.loop-i.place < length c.args.words.now = let l = c.loop-i in
+    stride_in c.args.many c.args.step _ l.i l.place l.invariant.0 c.loop-i-test.true in
+    inside
 
 pub overflow_add-buffer : goal.overflow_add-buffer
 overflow_add-buffer c = omega (arith, c.requires.2)
@@ -33,7 +32,10 @@ pub bounds-buffer-at : goal.bounds-buffer-at
 bounds-buffer-at c = omega (arith, c.requires.2, c.loop-i.invariant.1)
 
 pub overflow_add-place : goal.overflow_add-place
-overflow_add-place c = omega (arith, inside c.before, c.requires.0)
+overflow_add-place c =
+    let inside : c.loop-i.place < length c.args.words.now = let l = c.loop-i in
+    stride_in c.args.many c.args.step _ l.i l.place l.invariant.0 c.loop-i-test.true in
+    omega (arith, inside, c.requires.0)
 
 pub loop-i-preserved : goal.loop-i-preserved
 loop-i-preserved c =

@@ -2,19 +2,10 @@
 use Rattle.std.proofs.Common.{◌≡◌, refl, ◌∙◌, ⊎_elim, arith, ℕ, ◌+◌, ◌*◌, ◌≤◌, lt-ltb, le-ltb, mul-le-mul, ltb}
 use Rattle.base.specs.Pick.{pick}
 use Rattle.parameters.specs.Lookup.{mode_of, width_of}
-use Rattle.columns.proofs.rooms.rooms_of.Goals.{Joined-mode-gt0}
 use Rattle.columns.proofs.rooms.rooms_of.Goals as goal
 
 small : (a n b : ℕ) → a ≤ b → n ≤ 65536 → a * n ≤ b * 65536
 small a n b h k = mul-le-mul h k
-
--- the table words, in a lookup mode and without
-table-words : (c : Joined-mode-gt0) → c.if-mode-gt0.tables ≡ pick (ltb 0 (mode_of c.args.outline.lookup)) ((width_of c.args.outline.lookup + 1) * c.args.outline.trace) 0
-table-words c =
-    let m = mode_of c.args.outline.lookup in
-    ⊎_elim
-    (λ w. w.3 ∙ rw (w.1.ensures, lt-ltb 0 m (omega (arith, c.mode.ensures, w.0.taken))))
-    (λ w. w.1 ∙ rw (le-ltb 0 m (omega (arith, c.mode.ensures, w.0.left)))) c.if-mode-gt0.branch
 
 pub overflow_add-tables : goal.overflow_add-tables
 overflow_add-tables c = omega (arith, c.requires.width, c.lookup_width.ensures)
@@ -46,12 +37,16 @@ overflow_mul-result-3 c = omega (arith, c.requires.variables)
 
 pub returns : goal.returns
 returns c gs ns =
+    let table-words : c.if-mode-gt0.tables ≡ pick (ltb 0 (mode_of c.args.outline.lookup)) ((width_of c.args.outline.lookup + 1) * c.args.outline.trace) 0 = let m = mode_of c.args.outline.lookup in
+    ⊎_elim
+    (λ w. w.3 ∙ rw (w.1.ensures, lt-ltb 0 m (omega (arith, c.mode.ensures, w.0.taken))))
+    (λ w. w.1 ∙ rw (le-ltb 0 m (omega (arith, c.mode.ensures, w.0.left)))) c.if-mode-gt0.branch in
     let q = c.args.outline in
     let w = c.requires in
     record {
       constants_are = refl;
       copies_are = refl;
       scratch_is = refl;
-      tables_are = table-words c.before.before.before.before;
+      tables_are = table-words;
       small = omega (arith, small (q.told.constants + q.specialised) q.trace 63 (omega (arith, w.height, w.special)) w.long);
     }

@@ -3,7 +3,6 @@ use Rattle.std.proofs.Common.{◌≡◌, sym, ◌∙◌, List, ◌++◌, arith, 
 use Rattle.pieces.specs.Writing.{put, padded}
 use Rattle.pieces.specs.WriteLaws.{put_line}
 use Rattle.base.specs.Digits.{digits, digits-many}
-use Rattle.columns.proofs.rows.stage_line.Goals.{After-write_words}
 use Rattle.columns.proofs.rows.stage_line.Goals as goal
 
 -- the three parts make up the line
@@ -15,15 +14,15 @@ line-by k at bits steps b₀ b₁ b₂ b₃ words h e₁ e₂ e₃ =
     let y : at + (steps + length words) * 1 ≡ at + (steps + length words) = omega arith in
     e₃ ∙ rw (e₂, e₁) (sym (rw (n, x, y) at (put_line k 1 b₀ at (digits steps bits) words (omega (arith, n)))))
 
--- the stage is as long as it was
-long : (c : After-write_words) → length c.write_words.new.buffer ≡ 2048
-long c = c.write_words.auto.buffer ∙ c.write_path.auto.buffer ∙ c.requires.2
-
 pub write_words-requires : goal.write_words-requires
 write_words-requires c = omega (arith, c.requires.0, c.requires.1, c.requires.2, c.write_path.auto.buffer)
 
 pub write_same-requires : goal.write_same-requires
-write_same-requires c = omega (arith, c.requires.0, c.requires.1, long c.before)
+write_same-requires c =
+    let long : length c.write_words.new.buffer ≡ 2048 = c.write_words.auto.buffer ∙ c.write_path.auto.buffer ∙ c.requires.2 in
+    omega (arith, c.requires.0, c.requires.1, long)
 
 pub returns : goal.returns
-returns c = let a = c.args in record { stage_after = line-by a.height a.at a.bits a.steps a.stage.now _ _ _ a.words.now c.requires.1 c.write_path.ensures c.write_words.ensures c.write_same.ensures; stage_len = c.write_same.auto.buffer ∙ long c.before.before }
+returns c =
+    let long : length c.write_words.new.buffer ≡ 2048 = c.write_words.auto.buffer ∙ c.write_path.auto.buffer ∙ c.requires.2 in
+    let a = c.args in record { stage_after = line-by a.height a.at a.bits a.steps a.stage.now _ _ _ a.words.now c.requires.1 c.write_path.ensures c.write_words.ensures c.write_same.ensures; stage_len = c.write_same.auto.buffer ∙ long }

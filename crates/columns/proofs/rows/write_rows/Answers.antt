@@ -3,13 +3,7 @@ use Rattle.std.proofs.Common.{refl, sym, arith, ℕ, ◌+◌, ◌-◌, ◌<◌, 
 use Rattle.columns.specs.Placed.{told_by, Stageable, Stages}
 use Rattle.columns.proofs.Parts.{rest_is}
 use Rattle.columns.proofs.StageLoop.{writing_begin, writing_room, writing_next, writing_lines}
-use Rattle.columns.proofs.rows.write_rows.Goals.{After-stage_rows-staged}
 use Rattle.columns.proofs.rows.write_rows.Goals as goal
-
--- what is staged is the first of the records that are left
-first : (c : After-stage_rows-staged)
-    → Stages c.args.height c.args.gates.bits c.args.gates.steps (drop c.loop-i.i c.args.piece.now) c.stage_rows-staged.new.stage c.stage_rows-staged.result.next c.stage_rows-staged.result.rows
-first c = rw (rest_is c.args.piece.now c.loop-i.i) at c.stage_rows-staged.ensures
 
 record Turn (len trace i row next rows : ℕ) : Type 0 where
   pub some : 0 < next
@@ -17,21 +11,6 @@ record Turn (len trace i row next rows : ℕ) : Type 0 where
   pub low : len ≤ 18446744073709551615
   pub few : rows ≤ 32
   pub room : row + rows ≤ trace
-
-turn : (c : After-stage_rows-staged) → Turn (length c.args.piece.now) c.args.trace c.loop-i.i c.loop-i.row c.stage_rows-staged.result.next c.stage_rows-staged.result.rows
-turn c =
-    let a = c.args in
-    let l = c.loop-i in
-    let p = first c in
-    let h : l.i < length a.piece.now = c.loop-i-test.true in
-    let n = length-drop l.i a.piece.now in
-    record {
-      some = (p.some (omega (arith, h, n))).0;
-      within = omega (arith, p.within, n, h);
-      low = omega arith;
-      few = p.few;
-      room = writing_room a.height a.trace a.count a.piece.now a.constants.now a.gates.bits a.gates.steps l.constants l.stage l.row l.i l.invariant _ _ _ p (told_by a.gates) c.requires.fits.1 h;
-    }
 
 pub loop-i-init : goal.loop-i-init
 loop-i-init c =
@@ -48,35 +27,93 @@ stage_rows-staged-requires c =
       trace = a.trace;
       count = l.row;
       few = c.requires.trace_bound.2;
-      room = c.requires.fits.0;
-      no_fault = l.invariant.fine (told_by a.gates) c.requires.fits.1;
+      room = c.requires.fits;
+      no_fault = l.invariant.fine (told_by a.gates) c.requires.piece_value;
     } in
     record { height_bound = (c.requires.trace_bound.1, l.invariant.staged); stageable = rw (rest_is a.piece.now l.i) q }
 
 pub slice_bounds-write_lines-end : goal.slice_bounds-write_lines-end
-slice_bounds-write_lines-end c = sym (first c.before).long
+slice_bounds-write_lines-end c =
+    let first : Stages c.args.height c.args.gates.bits c.args.gates.steps (drop c.loop-i.i c.args.piece.now) c.stage_rows-staged.new.stage c.stage_rows-staged.result.next c.stage_rows-staged.result.rows = rw (rest_is c.args.piece.now c.loop-i.i) at c.stage_rows-staged.ensures in
+    sym (first).long
 
 pub write_lines-requires : goal.write_lines-requires
 write_lines-requires c =
+    let first : Stages c.args.height c.args.gates.bits c.args.gates.steps (drop c.loop-i.i c.args.piece.now) c.stage_rows-staged.new.stage c.stage_rows-staged.result.next c.stage_rows-staged.result.rows = rw (rest_is c.args.piece.now c.loop-i.i) at c.stage_rows-staged.ensures in
+    let turn : Turn (length c.args.piece.now) c.args.trace c.loop-i.i c.loop-i.row c.stage_rows-staged.result.next c.stage_rows-staged.result.rows = let a = c.args in
     let l = c.loop-i in
-    let t = turn c.before.before in
-    record { width_le_step = (c.requires.trace_bound.1, omega arith, c.requires.trace_bound.0, t.room); many_in_bounds = (omega (arith, t.few, (first c.before.before).long), omega (arith, c.requires.trace_bound.3, l.invariant.long)) }
+    let p = first in
+    let h : l.i < length a.piece.now = c.loop-i-test.true in
+    let n = length-drop l.i a.piece.now in
+    record {
+      some = (p.some (omega (arith, h, n))).0;
+      within = omega (arith, p.within, n, h);
+      low = omega arith;
+      few = p.few;
+      room = writing_room a.height a.trace a.count a.piece.now a.constants.now a.gates.bits a.gates.steps l.constants l.stage l.row l.i l.invariant _ _ _ p (told_by a.gates) c.requires.piece_value h;
+    } in
+    let l = c.loop-i in
+    let t = turn in
+    record { width_le_step = (c.requires.trace_bound.1, omega arith, c.requires.trace_bound.0, t.room); many_in_bounds = (omega (arith, t.few, (first).long), omega (arith, c.requires.trace_bound.3, l.invariant.long)) }
 
 pub overflow_add-row : goal.overflow_add-row
-overflow_add-row c = omega (arith, turn c.before.before.before.before.before.before, c.requires.trace_bound.0)
+overflow_add-row c =
+    let first : Stages c.args.height c.args.gates.bits c.args.gates.steps (drop c.loop-i.i c.args.piece.now) c.stage_rows-staged.new.stage c.stage_rows-staged.result.next c.stage_rows-staged.result.rows = rw (rest_is c.args.piece.now c.loop-i.i) at c.stage_rows-staged.ensures in
+    let turn : Turn (length c.args.piece.now) c.args.trace c.loop-i.i c.loop-i.row c.stage_rows-staged.result.next c.stage_rows-staged.result.rows = let a = c.args in
+    let l = c.loop-i in
+    let p = first in
+    let h : l.i < length a.piece.now = c.loop-i-test.true in
+    let n = length-drop l.i a.piece.now in
+    record {
+      some = (p.some (omega (arith, h, n))).0;
+      within = omega (arith, p.within, n, h);
+      low = omega arith;
+      few = p.few;
+      room = writing_room a.height a.trace a.count a.piece.now a.constants.now a.gates.bits a.gates.steps l.constants l.stage l.row l.i l.invariant _ _ _ p (told_by a.gates) c.requires.piece_value h;
+    } in
+    omega (arith, turn, c.requires.trace_bound.0)
 
 pub overflow_add-i : goal.overflow_add-i
-overflow_add-i c = omega (arith, turn c.before.before.before.before.before.before.before)
+overflow_add-i c =
+    let first : Stages c.args.height c.args.gates.bits c.args.gates.steps (drop c.loop-i.i c.args.piece.now) c.stage_rows-staged.new.stage c.stage_rows-staged.result.next c.stage_rows-staged.result.rows = rw (rest_is c.args.piece.now c.loop-i.i) at c.stage_rows-staged.ensures in
+    let turn : Turn (length c.args.piece.now) c.args.trace c.loop-i.i c.loop-i.row c.stage_rows-staged.result.next c.stage_rows-staged.result.rows = let a = c.args in
+    let l = c.loop-i in
+    let p = first in
+    let h : l.i < length a.piece.now = c.loop-i-test.true in
+    let n = length-drop l.i a.piece.now in
+    record {
+      some = (p.some (omega (arith, h, n))).0;
+      within = omega (arith, p.within, n, h);
+      low = omega arith;
+      few = p.few;
+      room = writing_room a.height a.trace a.count a.piece.now a.constants.now a.gates.bits a.gates.steps l.constants l.stage l.row l.i l.invariant _ _ _ p (told_by a.gates) c.requires.piece_value h;
+    } in
+    omega (arith, turn)
 
 pub loop-i-smaller : goal.loop-i-smaller
-loop-i-smaller c = omega (arith, turn c.before.before.before.before.before.before.before)
+loop-i-smaller c =
+    let first : Stages c.args.height c.args.gates.bits c.args.gates.steps (drop c.loop-i.i c.args.piece.now) c.stage_rows-staged.new.stage c.stage_rows-staged.result.next c.stage_rows-staged.result.rows = rw (rest_is c.args.piece.now c.loop-i.i) at c.stage_rows-staged.ensures in
+    let turn : Turn (length c.args.piece.now) c.args.trace c.loop-i.i c.loop-i.row c.stage_rows-staged.result.next c.stage_rows-staged.result.rows = let a = c.args in
+    let l = c.loop-i in
+    let p = first in
+    let h : l.i < length a.piece.now = c.loop-i-test.true in
+    let n = length-drop l.i a.piece.now in
+    record {
+      some = (p.some (omega (arith, h, n))).0;
+      within = omega (arith, p.within, n, h);
+      low = omega arith;
+      few = p.few;
+      room = writing_room a.height a.trace a.count a.piece.now a.constants.now a.gates.bits a.gates.steps l.constants l.stage l.row l.i l.invariant _ _ _ p (told_by a.gates) c.requires.piece_value h;
+    } in
+    omega (arith, turn)
 
 pub loop-i-preserved : goal.loop-i-preserved
 loop-i-preserved c =
+    let first : Stages c.args.height c.args.gates.bits c.args.gates.steps (drop c.loop-i.i c.args.piece.now) c.stage_rows-staged.new.stage c.stage_rows-staged.result.next c.stage_rows-staged.result.rows = rw (rest_is c.args.piece.now c.loop-i.i) at c.stage_rows-staged.ensures in
     let a = c.args in
     let l = c.loop-i in
     let w = c.write_lines in
-    writing_next a.height a.trace a.count a.piece.now a.constants.now a.gates.bits a.gates.steps l.constants l.stage l.row l.i l.invariant _ _ _ (first c.before.before.before.before.before.before.before) _ w.auto.1.1.1.1.1.1.0 w.ensures
+    writing_next a.height a.trace a.count a.piece.now a.constants.now a.gates.bits a.gates.steps l.constants l.stage l.row l.i l.invariant _ _ _ (first) _ w.auto.1.1.1.1.1.1.0 w.ensures
 
 pub shape_of-constants : goal.shape_of-constants
 shape_of-constants c = c.loop-i.invariant.long
@@ -87,4 +124,4 @@ returns c =
     let l = c.loop-i in
     λ path q.
     writing_lines a.height a.trace a.count a.piece.now a.constants.now a.gates.bits a.gates.steps l.constants l.stage l.row l.i l.invariant c.loop-i-test.false
-    (told_by a.gates) path c.requires.fits.1 q
+    (told_by a.gates) path c.requires.piece_value q

@@ -12,36 +12,35 @@ use Rattle.pieces.specs.Rows.{marked}
 use Rattle.columns.specs.Intake.{setting_of}
 use Rattle.columns.specs.Sections.{pieces_under, unpadded_last, unpadded_number, unpadded_call}
 use Rattle.columns.specs.SectionsLaws.{or_assoc}
-use Rattle.columns.proofs.sections.unpadded_number.Goals.{After-parts_rows-gates, Else-gates-ne0, Else-height-gt-LONGEST_TRACE}
+use Rattle.columns.proofs.sections.unpadded_number.Goals.{Else-height-gt-LONGEST_TRACE}
 use Rattle.columns.proofs.sections.unpadded_number.Goals as goal
 
--- the gates' answer is the plan's, and its number the plan's test
-answer-is : (c : After-parts_rows-gates) → c.parts_rows-gates.result ≡ gate_rows_answer c.args.t1
-answer-is c = c.parts_rows-gates.ensures ∙ rw c.outline.ensures
-
-no_fault : (c : Else-gates-ne0) → plan_fault c.args.t1 ≡ 0
-no_fault c = (gates-number c.args.t1 c.parts_rows-gates.result (answer-is c.before.before)).0 c.if-gates-ne0.false
-
 -- past 19 and 1: labels and sections together, then the last tests
-parted : (c : Else-height-gt-LONGEST_TRACE) → let a = c.args in let x = setting_of a.t1 in
+parted : (c : Else-height-gt-LONGEST_TRACE) → let a = c.args in let x = setting_of a.self in
     unpadded_call x a.height a.gate a.rows.now a.s-words.now a.cells.now a.tables.now ≡ or_number (or_number x.labelled (pieces_under x a.height a.rows.now a.s-words.now a.cells.now a.tables.now)) (unpadded_last x a.height a.gate (length a.s-words.now) (length a.cells.now) (marked open_state.used (rows_of a.rows.now)))
 unfolding unpadded_number
 parted c =
     let a = c.args in
-    pick_yes _ _ 19 (eq-eqb (plan_fault a.t1) 0 (no_fault c.before)) ∙ pick_yes _ _ 1 (le-leb a.height longest_trace c.if-height-gt-LONGEST_TRACE.false) ∙ sym (or_assoc _ _ _)
+    pick_yes _ _ 19 (eq-eqb (plan_fault a.self) 0 (no_fault c.before)) ∙ pick_yes _ _ 1 (le-leb a.height longest_trace c.if-height-gt-LONGEST_TRACE.false) ∙ sym (or_assoc _ _ _)
 
 pub returns-then-gates-ne0 : goal.returns-then-gates-ne0
 returns-then-gates-ne0 c =
-    let q = c.args.t1 in
-    sym (pick_no _ _ 19 (ne_eqb (plan_fault q) 0 (λ z. c.if-gates-ne0.true ((gates-number q c.parts_rows-gates.result (answer-is c.before.before)).1 z))))
+    let answer-is : c.parts_rows-gates.result ≡ gate_rows_answer c.args.self = c.parts_rows-gates.ensures ∙ rw c.outline.ensures in
+    let q = c.args.self in
+    sym (pick_no _ _ 19 (ne_eqb (plan_fault q) 0 (λ z. c.if-gates-ne0.true ((gates-number q c.parts_rows-gates.result (answer-is)).1 z))))
 
 pub returns-then-height-gt-LONGEST_TRACE : goal.returns-then-height-gt-LONGEST_TRACE
 returns-then-height-gt-LONGEST_TRACE c =
+    let answer-is : c.parts_rows-gates.result ≡ gate_rows_answer c.args.self = c.parts_rows-gates.ensures ∙ rw c.outline.ensures in
+    let no_fault : plan_fault c.args.self ≡ 0 = (gates-number c.args.self c.parts_rows-gates.result (answer-is)).0 c.if-gates-ne0.false in
     let a = c.args in
-    sym (pick_yes _ _ 19 (eq-eqb (plan_fault a.t1) 0 (no_fault c.before)) ∙ pick_no _ _ 1 (lt-leb a.height longest_trace c.if-height-gt-LONGEST_TRACE.true))
+    sym (pick_yes _ _ 19 (eq-eqb (plan_fault a.self) 0 (no_fault)) ∙ pick_no _ _ 1 (lt-leb a.height longest_trace c.if-height-gt-LONGEST_TRACE.true))
 
 pub test_pieces-tested-requires : goal.test_pieces-tested-requires
-test_pieces-tested-requires c = (no_fault c.before.before, answer-is c.before.before.before.before, c.if-height-gt-LONGEST_TRACE.false)
+test_pieces-tested-requires c =
+    let answer-is : c.parts_rows-gates.result ≡ gate_rows_answer c.args.self = c.parts_rows-gates.ensures ∙ rw c.outline.ensures in
+    let no_fault : plan_fault c.args.self ≡ 0 = (gates-number c.args.self c.parts_rows-gates.result (answer-is)).0 c.if-gates-ne0.false in
+    (no_fault, answer-is, c.if-height-gt-LONGEST_TRACE.false)
 
 pub returns-then-tested-ne0 : goal.returns-then-tested-ne0
 returns-then-tested-ne0 c =
@@ -49,12 +48,15 @@ returns-then-tested-ne0 c =
     e ∙ sym (parted c.before.before.before.before ∙ first_found _ _ (λ z. c.if-tested-ne0.true (e ∙ z)))
 
 pub unpadded_last-requires : goal.unpadded_last-requires
-unpadded_last-requires c = (no_fault c.before.before.before.before.before, c.if-height-gt-LONGEST_TRACE.false)
+unpadded_last-requires c =
+    let answer-is : c.parts_rows-gates.result ≡ gate_rows_answer c.args.self = c.parts_rows-gates.ensures ∙ rw c.outline.ensures in
+    let no_fault : plan_fault c.args.self ≡ 0 = (gates-number c.args.self c.parts_rows-gates.result (answer-is)).0 c.if-gates-ne0.false in
+    (no_fault, c.if-height-gt-LONGEST_TRACE.false)
 
 pub returns : goal.returns
 returns c =
     let a = c.args in
     let t = c.test_pieces-tested in
     c.unpadded_last.ensures
-    ∙ ap (unpadded_last (setting_of a.t1) a.height a.gate (length a.s-words.now) (length a.cells.now)) (t.ensures.1 c.if-tested-ne0.false).1
+    ∙ ap (unpadded_last (setting_of a.self) a.height a.gate (length a.s-words.now) (length a.cells.now)) (t.ensures.1 c.if-tested-ne0.false).1
     ∙ sym (parted c.before.before.before.before.before ∙ first-none _ _ (sym t.ensures.0 ∙ c.if-tested-ne0.false))

@@ -7,28 +7,7 @@ use Rattle.pieces.specs.Tables.{table_fault}
 use Rattle.pieces.specs.RecordLaws.{front_short, front_cut, front_whole}
 use Rattle.pieces.specs.FaultLaws.{table-cut, table_mode, table-front, table_width, table-count, table_past, table_large, table_good}
 use Rattle.columns.specs.Stacked.{stack}
-use Rattle.columns.proofs.tables.table_fault.Goals.{After-all_below, Else-trace-high, Else-words-size}
 use Rattle.columns.proofs.tables.table_fault.Goals as goal
-
--- a table that fits the trace has few words
-few_words : (c : Else-trace-high) → c.args.width * get_or c.args.words.now 1 0 ≤ 16 * 65536
-few_words c =
-    let n : get_or c.args.words.now 1 0 ≤ 65536 = omega (arith, c.if-trace-high.false, c.requires.2) in
-    mul-le-mul c.requires.0 n
-
--- a record that is whole: its words are what `all_below` was asked of
-read : (c : Else-words-size) → front table_size c.args.words.now
-    ≡ whole (get_or c.args.words.now 0 0) (get_or c.args.words.now 1 0) (take (get_or c.args.words.now 0 0 * get_or c.args.words.now 1 0) (drop 2 c.args.words.now))
-read c =
-    let w : get_or c.args.words.now 0 0 ≡ c.args.width = c.if-words-width.false in
-    front_whole table_size c.args.words.now c.if-words-lt2.false (rw w c.if-words-size.false)
-
-below : (c : After-all_below) → c.all_below.result ≡ all_below p (take (get_or c.args.words.now 0 0 * get_or c.args.words.now 1 0) (drop 2 c.args.words.now))
-below c =
-    let w : get_or c.args.words.now 0 0 ≡ c.args.width = c.if-words-width.false in
-    let n = c.args.width * get_or c.args.words.now 1 0 in
-    let q : 2 + n - 2 ≡ n = omega arith in
-    c.all_below.ensures ∙ ap (λ (k : ℕ). all_below p (take k (drop 2 c.args.words.now))) (q ∙ ap (λ (k : ℕ). k * get_or c.args.words.now 1 0) (sym w))
 
 pub returns-then-words-lt2 : goal.returns-then-words-lt2
 returns-then-words-lt2 c =
@@ -51,7 +30,10 @@ returns-then-trace-high c =
     sym (table-front a.lookup a.width a.trace (stack a.count a.high) a.words.now c.if-words-lt2.false (λ cs. table_past a.lookup a.width a.trace (stack a.count a.high) (get_or a.words.now 0 0) (get_or a.words.now 1 0) cs c.if-lookup.true c.if-words-width.false c.if-count-ge-MOST_TABLES.false (omega (arith, c.if-trace-high.true, c.requires.1))))
 
 pub overflow_mul-size : goal.overflow_mul-size
-overflow_mul-size c = omega (arith, few_words c)
+overflow_mul-size c =
+    let few_words : c.args.width * get_or c.args.words.now 1 0 ≤ 16 * 65536 = let n : get_or c.args.words.now 1 0 ≤ 65536 = omega (arith, c.if-trace-high.false, c.requires.2) in
+    mul-le-mul c.requires.0 n in
+    omega (arith, few_words)
 
 pub returns-then-words-size : goal.returns-then-words-size
 returns-then-words-size c =
@@ -62,19 +44,31 @@ returns-then-words-size c =
 
 pub returns-then-all_below : goal.returns-then-all_below
 returns-then-all_below c =
+    let read : front table_size c.args.words.now ≡ whole (get_or c.args.words.now 0 0) (get_or c.args.words.now 1 0) (take (get_or c.args.words.now 0 0 * get_or c.args.words.now 1 0) (drop 2 c.args.words.now)) = let w : get_or c.args.words.now 0 0 ≡ c.args.width = c.if-words-width.false in
+    front_whole table_size c.args.words.now c.if-words-lt2.false (rw w c.if-words-size.false) in
+    let below : c.all_below.result ≡ all_below p (take (get_or c.args.words.now 0 0 * get_or c.args.words.now 1 0) (drop 2 c.args.words.now)) = let w : get_or c.args.words.now 0 0 ≡ c.args.width = c.if-words-width.false in
+    let n = c.args.width * get_or c.args.words.now 1 0 in
+    let q : 2 + n - 2 ≡ n = omega arith in
+    c.all_below.ensures ∙ ap (λ (k : ℕ). all_below p (take k (drop 2 c.args.words.now))) (q ∙ ap (λ (k : ℕ). k * get_or c.args.words.now 1 0) (sym w)) in
     let a = c.args in
     let g = get_or a.words.now 0 0 in
     let n = get_or a.words.now 1 0 in
     let cs = take (g * n) (drop 2 a.words.now) in
-    sym (ap (table_fault a.lookup a.width a.trace (stack a.count a.high)) (read c.before.before.before) ∙ table_good a.lookup a.width a.trace (stack a.count a.high) g n cs (record { looked = c.if-lookup.true; wide = c.if-words-width.false; few = c.if-count-ge-MOST_TABLES.false; room = omega (arith, c.if-trace-high.false, c.requires.1); small = sym (below c.before) ∙ c.if-all_below.true }))
+    sym (ap (table_fault a.lookup a.width a.trace (stack a.count a.high)) (read) ∙ table_good a.lookup a.width a.trace (stack a.count a.high) g n cs (record { looked = c.if-lookup.true; wide = c.if-words-width.false; few = c.if-count-ge-MOST_TABLES.false; room = omega (arith, c.if-trace-high.false, c.requires.1); small = sym (below) ∙ c.if-all_below.true }))
 
 pub returns-then-lookup : goal.returns-then-lookup
 returns-then-lookup c =
+    let read : front table_size c.args.words.now ≡ whole (get_or c.args.words.now 0 0) (get_or c.args.words.now 1 0) (take (get_or c.args.words.now 0 0 * get_or c.args.words.now 1 0) (drop 2 c.args.words.now)) = let w : get_or c.args.words.now 0 0 ≡ c.args.width = c.if-words-width.false in
+    front_whole table_size c.args.words.now c.if-words-lt2.false (rw w c.if-words-size.false) in
+    let below : c.all_below.result ≡ all_below p (take (get_or c.args.words.now 0 0 * get_or c.args.words.now 1 0) (drop 2 c.args.words.now)) = let w : get_or c.args.words.now 0 0 ≡ c.args.width = c.if-words-width.false in
+    let n = c.args.width * get_or c.args.words.now 1 0 in
+    let q : 2 + n - 2 ≡ n = omega arith in
+    c.all_below.ensures ∙ ap (λ (k : ℕ). all_below p (take k (drop 2 c.args.words.now))) (q ∙ ap (λ (k : ℕ). k * get_or c.args.words.now 1 0) (sym w)) in
     let a = c.args in
     let g = get_or a.words.now 0 0 in
     let n = get_or a.words.now 1 0 in
     let cs = take (g * n) (drop 2 a.words.now) in
-    sym (ap (table_fault a.lookup a.width a.trace (stack a.count a.high)) (read c.before.before.before) ∙ table_large a.lookup a.width a.trace (stack a.count a.high) g n cs c.if-lookup.true c.if-words-width.false c.if-count-ge-MOST_TABLES.false (omega (arith, c.if-trace-high.false, c.requires.1)) (sym (below c.before) ∙ c.if-all_below.false))
+    sym (ap (table_fault a.lookup a.width a.trace (stack a.count a.high)) (read) ∙ table_large a.lookup a.width a.trace (stack a.count a.high) g n cs c.if-lookup.true c.if-words-width.false c.if-count-ge-MOST_TABLES.false (omega (arith, c.if-trace-high.false, c.requires.1)) (sym (below) ∙ c.if-all_below.false))
 
 pub returns : goal.returns
 returns c =

@@ -7,15 +7,7 @@ use Rattle.pieces.specs.RecordLaws.{Uncut, uncut, Looking, looking_begin, lookin
 use Rattle.pieces.specs.FaultLaws.{table-cut, table_fine}
 use Rattle.columns.specs.Stacked.{stack}
 use Rattle.columns.proofs.Parts.{rest_is}
-use Rattle.columns.proofs.tables.tables_fault.Goals.{After-table_fault-fault, Else-fault-ne0}
 use Rattle.columns.proofs.tables.tables_fault.Goals as goal
-
--- the part that is handed over is the words from i on
-part : (c : After-table_fault-fault) → c.table_fault-fault.result
-    ≡ table_fault c.args.lookup c.args.width c.args.trace (stack c.loop-i.t c.loop-i.h) (front table_size (drop c.loop-i.i c.args.piece.now))
-part c =
-    c.table_fault-fault.ensures
-    ∙ ap (λ (l : List ℕ). table_fault c.args.lookup c.args.width c.args.trace (stack c.loop-i.t c.loop-i.h) (front table_size l)) (rest_is c.args.piece.now c.loop-i.i)
 
 -- a record without a fault is whole, of the width, and fits
 record Good (lookup : Bool) (width trace t h i : ℕ) (ws : List ℕ) : Type 0 where
@@ -26,19 +18,6 @@ record Good (lookup : Bool) (width trace t h i : ℕ) (ws : List ℕ) : Type 0 w
   pub room : h + get_or ws (i + 1) 0 ≤ trace
   pub end : i + 2 + width * get_or ws (i + 1) 0 ≤ length ws
 
-good : (c : Else-fault-ne0) → Good c.args.lookup c.args.width c.args.trace c.loop-i.t c.loop-i.h c.loop-i.i c.args.piece.now
-good c =
-    let a = c.args in
-    let s = stack c.loop-i.t c.loop-i.h in
-    let i = c.loop-i.i in
-    let ws = a.piece.now in
-    let e : table_fault a.lookup a.width a.trace s (front table_size (drop i ws)) ≡ 0 = sym (part c.before) ∙ c.if-fault-ne0.false in
-    let bad : table_fault a.lookup a.width a.trace s cut ≢ 0 = λ z. omega (arith, z, table-cut a.lookup a.width a.trace s) in
-    let u = uncut table_size ws i (λ q. bad (ap (table_fault a.lookup a.width a.trace s) (sym q) ∙ e)) in
-    let f = table_fine a.lookup a.width a.trace s (get_or ws i 0) (get_or ws (i + 1) 0) _ (ap (table_fault a.lookup a.width a.trace s) (sym u.is) ∙ e) in
-    let w : get_or ws i 0 * get_or ws (i + 1) 0 ≡ a.width * get_or ws (i + 1) 0 = ap (λ (k : ℕ). k * get_or ws (i + 1) 0) f.wide in
-    record { clean = e; whole-record = u; wide = f.wide; few = f.few; room = f.room; end = omega (arith, u.two, u.fits, w) }
-
 pub loop-i-init : goal.loop-i-init
 loop-i-init c = let a = c.args in (c.requires.1, c.requires.2, looking_begin table_size (table_fault a.lookup a.width a.trace) stack_next a.piece.now (stack a.count a.high))
 
@@ -48,44 +27,175 @@ table_fault-fault-requires c = (c.requires.0, c.loop-i.invariant.1, c.requires.3
 pub returns-then-fault-ne0 : goal.returns-then-fault-ne0
 unfolding tables_of
 returns-then-fault-ne0 c =
+    let part : c.table_fault-fault.result ≡ table_fault c.args.lookup c.args.width c.args.trace (stack c.loop-i.t c.loop-i.h) (front table_size (drop c.loop-i.i c.args.piece.now)) = c.table_fault-fault.ensures
+    ∙ ap (λ (l : List ℕ). table_fault c.args.lookup c.args.width c.args.trace (stack c.loop-i.t c.loop-i.h) (front table_size l)) (rest_is c.args.piece.now c.loop-i.i) in
     let a = c.args in
     let l = c.loop-i in
-    let e = part c.before in
+    let e = part in
     e ∙ sym (looking-found table_size (table_fault a.lookup a.width a.trace) stack_next a.piece.now (stack a.count a.high) (stack l.t l.h) l.i l.invariant.2 (omega arith) (λ z. c.if-fault-ne0.true (e ∙ z)))
 
 pub overflow_add-n : goal.overflow_add-n
-overflow_add-n c = omega (arith, (good c).whole-record.two)
+overflow_add-n c =
+    let part : c.table_fault-fault.result ≡ table_fault c.args.lookup c.args.width c.args.trace (stack c.loop-i.t c.loop-i.h) (front table_size (drop c.loop-i.i c.args.piece.now)) = c.table_fault-fault.ensures
+    ∙ ap (λ (l : List ℕ). table_fault c.args.lookup c.args.width c.args.trace (stack c.loop-i.t c.loop-i.h) (front table_size l)) (rest_is c.args.piece.now c.loop-i.i) in
+    let good : Good c.args.lookup c.args.width c.args.trace c.loop-i.t c.loop-i.h c.loop-i.i c.args.piece.now = let a = c.args in
+    let s = stack c.loop-i.t c.loop-i.h in
+    let i = c.loop-i.i in
+    let ws = a.piece.now in
+    let e : table_fault a.lookup a.width a.trace s (front table_size (drop i ws)) ≡ 0 = sym (part) ∙ c.if-fault-ne0.false in
+    let bad : table_fault a.lookup a.width a.trace s cut ≢ 0 = λ z. omega (arith, z, table-cut a.lookup a.width a.trace s) in
+    let u = uncut table_size ws i (λ q. bad (ap (table_fault a.lookup a.width a.trace s) (sym q) ∙ e)) in
+    let f = table_fine a.lookup a.width a.trace s (get_or ws i 0) (get_or ws (i + 1) 0) _ (ap (table_fault a.lookup a.width a.trace s) (sym u.is) ∙ e) in
+    let w : get_or ws i 0 * get_or ws (i + 1) 0 ≡ a.width * get_or ws (i + 1) 0 = ap (λ (k : ℕ). k * get_or ws (i + 1) 0) f.wide in
+    record { clean = e; whole-record = u; wide = f.wide; few = f.few; room = f.room; end = omega (arith, u.two, u.fits, w) } in
+    omega (arith, (good).whole-record.two)
 
 pub offset_bounds-piece-i-in-loop-i : goal.offset_bounds-piece-i-in-loop-i
-offset_bounds-piece-i-in-loop-i c = omega (arith, (good c).whole-record.two)
+offset_bounds-piece-i-in-loop-i c =
+    let part : c.table_fault-fault.result ≡ table_fault c.args.lookup c.args.width c.args.trace (stack c.loop-i.t c.loop-i.h) (front table_size (drop c.loop-i.i c.args.piece.now)) = c.table_fault-fault.ensures
+    ∙ ap (λ (l : List ℕ). table_fault c.args.lookup c.args.width c.args.trace (stack c.loop-i.t c.loop-i.h) (front table_size l)) (rest_is c.args.piece.now c.loop-i.i) in
+    let good : Good c.args.lookup c.args.width c.args.trace c.loop-i.t c.loop-i.h c.loop-i.i c.args.piece.now = let a = c.args in
+    let s = stack c.loop-i.t c.loop-i.h in
+    let i = c.loop-i.i in
+    let ws = a.piece.now in
+    let e : table_fault a.lookup a.width a.trace s (front table_size (drop i ws)) ≡ 0 = sym (part) ∙ c.if-fault-ne0.false in
+    let bad : table_fault a.lookup a.width a.trace s cut ≢ 0 = λ z. omega (arith, z, table-cut a.lookup a.width a.trace s) in
+    let u = uncut table_size ws i (λ q. bad (ap (table_fault a.lookup a.width a.trace s) (sym q) ∙ e)) in
+    let f = table_fine a.lookup a.width a.trace s (get_or ws i 0) (get_or ws (i + 1) 0) _ (ap (table_fault a.lookup a.width a.trace s) (sym u.is) ∙ e) in
+    let w : get_or ws i 0 * get_or ws (i + 1) 0 ≡ a.width * get_or ws (i + 1) 0 = ap (λ (k : ℕ). k * get_or ws (i + 1) 0) f.wide in
+    record { clean = e; whole-record = u; wide = f.wide; few = f.few; room = f.room; end = omega (arith, u.two, u.fits, w) } in
+    omega (arith, (good).whole-record.two)
 
 pub bounds-piece-i : goal.bounds-piece-i
-bounds-piece-i c = omega (arith, (good c.before).whole-record.two)
+bounds-piece-i c =
+    let part : c.table_fault-fault.result ≡ table_fault c.args.lookup c.args.width c.args.trace (stack c.loop-i.t c.loop-i.h) (front table_size (drop c.loop-i.i c.args.piece.now)) = c.table_fault-fault.ensures
+    ∙ ap (λ (l : List ℕ). table_fault c.args.lookup c.args.width c.args.trace (stack c.loop-i.t c.loop-i.h) (front table_size l)) (rest_is c.args.piece.now c.loop-i.i) in
+    let good : Good c.args.lookup c.args.width c.args.trace c.loop-i.t c.loop-i.h c.loop-i.i c.args.piece.now = let a = c.args in
+    let s = stack c.loop-i.t c.loop-i.h in
+    let i = c.loop-i.i in
+    let ws = a.piece.now in
+    let e : table_fault a.lookup a.width a.trace s (front table_size (drop i ws)) ≡ 0 = sym (part) ∙ c.if-fault-ne0.false in
+    let bad : table_fault a.lookup a.width a.trace s cut ≢ 0 = λ z. omega (arith, z, table-cut a.lookup a.width a.trace s) in
+    let u = uncut table_size ws i (λ q. bad (ap (table_fault a.lookup a.width a.trace s) (sym q) ∙ e)) in
+    let f = table_fine a.lookup a.width a.trace s (get_or ws i 0) (get_or ws (i + 1) 0) _ (ap (table_fault a.lookup a.width a.trace s) (sym u.is) ∙ e) in
+    let w : get_or ws i 0 * get_or ws (i + 1) 0 ≡ a.width * get_or ws (i + 1) 0 = ap (λ (k : ℕ). k * get_or ws (i + 1) 0) f.wide in
+    record { clean = e; whole-record = u; wide = f.wide; few = f.few; room = f.room; end = omega (arith, u.two, u.fits, w) } in
+    omega (arith, (good).whole-record.two)
 
 pub overflow_add-t : goal.overflow_add-t
-overflow_add-t c = omega (arith, (good c.before).few)
+overflow_add-t c =
+    let part : c.table_fault-fault.result ≡ table_fault c.args.lookup c.args.width c.args.trace (stack c.loop-i.t c.loop-i.h) (front table_size (drop c.loop-i.i c.args.piece.now)) = c.table_fault-fault.ensures
+    ∙ ap (λ (l : List ℕ). table_fault c.args.lookup c.args.width c.args.trace (stack c.loop-i.t c.loop-i.h) (front table_size l)) (rest_is c.args.piece.now c.loop-i.i) in
+    let good : Good c.args.lookup c.args.width c.args.trace c.loop-i.t c.loop-i.h c.loop-i.i c.args.piece.now = let a = c.args in
+    let s = stack c.loop-i.t c.loop-i.h in
+    let i = c.loop-i.i in
+    let ws = a.piece.now in
+    let e : table_fault a.lookup a.width a.trace s (front table_size (drop i ws)) ≡ 0 = sym (part) ∙ c.if-fault-ne0.false in
+    let bad : table_fault a.lookup a.width a.trace s cut ≢ 0 = λ z. omega (arith, z, table-cut a.lookup a.width a.trace s) in
+    let u = uncut table_size ws i (λ q. bad (ap (table_fault a.lookup a.width a.trace s) (sym q) ∙ e)) in
+    let f = table_fine a.lookup a.width a.trace s (get_or ws i 0) (get_or ws (i + 1) 0) _ (ap (table_fault a.lookup a.width a.trace s) (sym u.is) ∙ e) in
+    let w : get_or ws i 0 * get_or ws (i + 1) 0 ≡ a.width * get_or ws (i + 1) 0 = ap (λ (k : ℕ). k * get_or ws (i + 1) 0) f.wide in
+    record { clean = e; whole-record = u; wide = f.wide; few = f.few; room = f.room; end = omega (arith, u.two, u.fits, w) } in
+    omega (arith, (good).few)
 
 pub overflow_add-h : goal.overflow_add-h
-overflow_add-h c = omega (arith, (good c.before).room, c.requires.3)
+overflow_add-h c =
+    let part : c.table_fault-fault.result ≡ table_fault c.args.lookup c.args.width c.args.trace (stack c.loop-i.t c.loop-i.h) (front table_size (drop c.loop-i.i c.args.piece.now)) = c.table_fault-fault.ensures
+    ∙ ap (λ (l : List ℕ). table_fault c.args.lookup c.args.width c.args.trace (stack c.loop-i.t c.loop-i.h) (front table_size l)) (rest_is c.args.piece.now c.loop-i.i) in
+    let good : Good c.args.lookup c.args.width c.args.trace c.loop-i.t c.loop-i.h c.loop-i.i c.args.piece.now = let a = c.args in
+    let s = stack c.loop-i.t c.loop-i.h in
+    let i = c.loop-i.i in
+    let ws = a.piece.now in
+    let e : table_fault a.lookup a.width a.trace s (front table_size (drop i ws)) ≡ 0 = sym (part) ∙ c.if-fault-ne0.false in
+    let bad : table_fault a.lookup a.width a.trace s cut ≢ 0 = λ z. omega (arith, z, table-cut a.lookup a.width a.trace s) in
+    let u = uncut table_size ws i (λ q. bad (ap (table_fault a.lookup a.width a.trace s) (sym q) ∙ e)) in
+    let f = table_fine a.lookup a.width a.trace s (get_or ws i 0) (get_or ws (i + 1) 0) _ (ap (table_fault a.lookup a.width a.trace s) (sym u.is) ∙ e) in
+    let w : get_or ws i 0 * get_or ws (i + 1) 0 ≡ a.width * get_or ws (i + 1) 0 = ap (λ (k : ℕ). k * get_or ws (i + 1) 0) f.wide in
+    record { clean = e; whole-record = u; wide = f.wide; few = f.few; room = f.room; end = omega (arith, u.two, u.fits, w) } in
+    omega (arith, (good).room, c.requires.3)
 
 pub overflow_add-i : goal.overflow_add-i
-overflow_add-i c = omega (arith, (good c.before).whole-record.two)
+overflow_add-i c =
+    let part : c.table_fault-fault.result ≡ table_fault c.args.lookup c.args.width c.args.trace (stack c.loop-i.t c.loop-i.h) (front table_size (drop c.loop-i.i c.args.piece.now)) = c.table_fault-fault.ensures
+    ∙ ap (λ (l : List ℕ). table_fault c.args.lookup c.args.width c.args.trace (stack c.loop-i.t c.loop-i.h) (front table_size l)) (rest_is c.args.piece.now c.loop-i.i) in
+    let good : Good c.args.lookup c.args.width c.args.trace c.loop-i.t c.loop-i.h c.loop-i.i c.args.piece.now = let a = c.args in
+    let s = stack c.loop-i.t c.loop-i.h in
+    let i = c.loop-i.i in
+    let ws = a.piece.now in
+    let e : table_fault a.lookup a.width a.trace s (front table_size (drop i ws)) ≡ 0 = sym (part) ∙ c.if-fault-ne0.false in
+    let bad : table_fault a.lookup a.width a.trace s cut ≢ 0 = λ z. omega (arith, z, table-cut a.lookup a.width a.trace s) in
+    let u = uncut table_size ws i (λ q. bad (ap (table_fault a.lookup a.width a.trace s) (sym q) ∙ e)) in
+    let f = table_fine a.lookup a.width a.trace s (get_or ws i 0) (get_or ws (i + 1) 0) _ (ap (table_fault a.lookup a.width a.trace s) (sym u.is) ∙ e) in
+    let w : get_or ws i 0 * get_or ws (i + 1) 0 ≡ a.width * get_or ws (i + 1) 0 = ap (λ (k : ℕ). k * get_or ws (i + 1) 0) f.wide in
+    record { clean = e; whole-record = u; wide = f.wide; few = f.few; room = f.room; end = omega (arith, u.two, u.fits, w) } in
+    omega (arith, (good).whole-record.two)
 
 pub overflow_mul-i : goal.overflow_mul-i
-overflow_mul-i c = omega (arith, (good c.before).end)
+overflow_mul-i c =
+    let part : c.table_fault-fault.result ≡ table_fault c.args.lookup c.args.width c.args.trace (stack c.loop-i.t c.loop-i.h) (front table_size (drop c.loop-i.i c.args.piece.now)) = c.table_fault-fault.ensures
+    ∙ ap (λ (l : List ℕ). table_fault c.args.lookup c.args.width c.args.trace (stack c.loop-i.t c.loop-i.h) (front table_size l)) (rest_is c.args.piece.now c.loop-i.i) in
+    let good : Good c.args.lookup c.args.width c.args.trace c.loop-i.t c.loop-i.h c.loop-i.i c.args.piece.now = let a = c.args in
+    let s = stack c.loop-i.t c.loop-i.h in
+    let i = c.loop-i.i in
+    let ws = a.piece.now in
+    let e : table_fault a.lookup a.width a.trace s (front table_size (drop i ws)) ≡ 0 = sym (part) ∙ c.if-fault-ne0.false in
+    let bad : table_fault a.lookup a.width a.trace s cut ≢ 0 = λ z. omega (arith, z, table-cut a.lookup a.width a.trace s) in
+    let u = uncut table_size ws i (λ q. bad (ap (table_fault a.lookup a.width a.trace s) (sym q) ∙ e)) in
+    let f = table_fine a.lookup a.width a.trace s (get_or ws i 0) (get_or ws (i + 1) 0) _ (ap (table_fault a.lookup a.width a.trace s) (sym u.is) ∙ e) in
+    let w : get_or ws i 0 * get_or ws (i + 1) 0 ≡ a.width * get_or ws (i + 1) 0 = ap (λ (k : ℕ). k * get_or ws (i + 1) 0) f.wide in
+    record { clean = e; whole-record = u; wide = f.wide; few = f.few; room = f.room; end = omega (arith, u.two, u.fits, w) } in
+    omega (arith, (good).end)
 
 pub overflow_add-i-in-loop-i : goal.overflow_add-i-in-loop-i
-overflow_add-i-in-loop-i c = omega (arith, (good c.before).end)
+overflow_add-i-in-loop-i c =
+    let part : c.table_fault-fault.result ≡ table_fault c.args.lookup c.args.width c.args.trace (stack c.loop-i.t c.loop-i.h) (front table_size (drop c.loop-i.i c.args.piece.now)) = c.table_fault-fault.ensures
+    ∙ ap (λ (l : List ℕ). table_fault c.args.lookup c.args.width c.args.trace (stack c.loop-i.t c.loop-i.h) (front table_size l)) (rest_is c.args.piece.now c.loop-i.i) in
+    let good : Good c.args.lookup c.args.width c.args.trace c.loop-i.t c.loop-i.h c.loop-i.i c.args.piece.now = let a = c.args in
+    let s = stack c.loop-i.t c.loop-i.h in
+    let i = c.loop-i.i in
+    let ws = a.piece.now in
+    let e : table_fault a.lookup a.width a.trace s (front table_size (drop i ws)) ≡ 0 = sym (part) ∙ c.if-fault-ne0.false in
+    let bad : table_fault a.lookup a.width a.trace s cut ≢ 0 = λ z. omega (arith, z, table-cut a.lookup a.width a.trace s) in
+    let u = uncut table_size ws i (λ q. bad (ap (table_fault a.lookup a.width a.trace s) (sym q) ∙ e)) in
+    let f = table_fine a.lookup a.width a.trace s (get_or ws i 0) (get_or ws (i + 1) 0) _ (ap (table_fault a.lookup a.width a.trace s) (sym u.is) ∙ e) in
+    let w : get_or ws i 0 * get_or ws (i + 1) 0 ≡ a.width * get_or ws (i + 1) 0 = ap (λ (k : ℕ). k * get_or ws (i + 1) 0) f.wide in
+    record { clean = e; whole-record = u; wide = f.wide; few = f.few; room = f.room; end = omega (arith, u.two, u.fits, w) } in
+    omega (arith, (good).end)
 
 pub loop-i-smaller : goal.loop-i-smaller
-loop-i-smaller c = omega (arith, (good c.before).end)
+loop-i-smaller c =
+    let part : c.table_fault-fault.result ≡ table_fault c.args.lookup c.args.width c.args.trace (stack c.loop-i.t c.loop-i.h) (front table_size (drop c.loop-i.i c.args.piece.now)) = c.table_fault-fault.ensures
+    ∙ ap (λ (l : List ℕ). table_fault c.args.lookup c.args.width c.args.trace (stack c.loop-i.t c.loop-i.h) (front table_size l)) (rest_is c.args.piece.now c.loop-i.i) in
+    let good : Good c.args.lookup c.args.width c.args.trace c.loop-i.t c.loop-i.h c.loop-i.i c.args.piece.now = let a = c.args in
+    let s = stack c.loop-i.t c.loop-i.h in
+    let i = c.loop-i.i in
+    let ws = a.piece.now in
+    let e : table_fault a.lookup a.width a.trace s (front table_size (drop i ws)) ≡ 0 = sym (part) ∙ c.if-fault-ne0.false in
+    let bad : table_fault a.lookup a.width a.trace s cut ≢ 0 = λ z. omega (arith, z, table-cut a.lookup a.width a.trace s) in
+    let u = uncut table_size ws i (λ q. bad (ap (table_fault a.lookup a.width a.trace s) (sym q) ∙ e)) in
+    let f = table_fine a.lookup a.width a.trace s (get_or ws i 0) (get_or ws (i + 1) 0) _ (ap (table_fault a.lookup a.width a.trace s) (sym u.is) ∙ e) in
+    let w : get_or ws i 0 * get_or ws (i + 1) 0 ≡ a.width * get_or ws (i + 1) 0 = ap (λ (k : ℕ). k * get_or ws (i + 1) 0) f.wide in
+    record { clean = e; whole-record = u; wide = f.wide; few = f.few; room = f.room; end = omega (arith, u.two, u.fits, w) } in
+    omega (arith, (good).end)
 
 pub loop-i-preserved : goal.loop-i-preserved
 loop-i-preserved c =
+    let part : c.table_fault-fault.result ≡ table_fault c.args.lookup c.args.width c.args.trace (stack c.loop-i.t c.loop-i.h) (front table_size (drop c.loop-i.i c.args.piece.now)) = c.table_fault-fault.ensures
+    ∙ ap (λ (l : List ℕ). table_fault c.args.lookup c.args.width c.args.trace (stack c.loop-i.t c.loop-i.h) (front table_size l)) (rest_is c.args.piece.now c.loop-i.i) in
+    let good : Good c.args.lookup c.args.width c.args.trace c.loop-i.t c.loop-i.h c.loop-i.i c.args.piece.now = let a = c.args in
+    let s = stack c.loop-i.t c.loop-i.h in
+    let i = c.loop-i.i in
+    let ws = a.piece.now in
+    let e : table_fault a.lookup a.width a.trace s (front table_size (drop i ws)) ≡ 0 = sym (part) ∙ c.if-fault-ne0.false in
+    let bad : table_fault a.lookup a.width a.trace s cut ≢ 0 = λ z. omega (arith, z, table-cut a.lookup a.width a.trace s) in
+    let u = uncut table_size ws i (λ q. bad (ap (table_fault a.lookup a.width a.trace s) (sym q) ∙ e)) in
+    let f = table_fine a.lookup a.width a.trace s (get_or ws i 0) (get_or ws (i + 1) 0) _ (ap (table_fault a.lookup a.width a.trace s) (sym u.is) ∙ e) in
+    let w : get_or ws i 0 * get_or ws (i + 1) 0 ≡ a.width * get_or ws (i + 1) 0 = ap (λ (k : ℕ). k * get_or ws (i + 1) 0) f.wide in
+    record { clean = e; whole-record = u; wide = f.wide; few = f.few; room = f.room; end = omega (arith, u.two, u.fits, w) } in
     let a = c.args in
     let l = c.loop-i in
     let ws = a.piece.now in
-    let g = good c.before in
+    let g = good in
     let bad : table_fault a.lookup a.width a.trace (stack l.t l.h) cut ≢ 0 = λ z. omega (arith, z, table-cut a.lookup a.width a.trace (stack l.t l.h)) in
     let next = looking-next table_size (table_fault a.lookup a.width a.trace) stack_next a.piece.now (stack a.count a.high) (stack l.t l.h) l.i l.invariant.2 bad g.clean in
     let s : stack_next (stack l.t l.h) (front table_size (drop l.i ws)) ≡ stack (l.t + 1) (l.h + get_or ws (l.i + 1) 0) = ap (stack_next (stack l.t l.h)) g.whole-record.is ∙ rw (add-one l.t) in

@@ -7,7 +7,6 @@ use Rattle.pieces.specs.FaultLaws.{table-cut, table_fine}
 use Rattle.columns.specs.Stacked.{stack}
 use Rattle.columns.proofs.Parts.{part_is, part_length}
 use Rattle.columns.proofs.TableLoop.{stacking_begin, stacking_next, stacking_count, stacking_high, stacking_lines}
-use Rattle.columns.proofs.tables.write_tables.Goals.{In-loop-i}
 use Rattle.columns.proofs.tables.write_tables.Goals as goal
 
 -- what is known of the record at the front
@@ -18,82 +17,257 @@ record Turn (width trace t h i : ℕ) (piece : List ℕ) : Type 0 where
   pub room : h + get_or piece (i + 1) 0 ≤ trace
   pub end : i + 2 + width * get_or piece (i + 1) 0 ≤ length piece
 
-front-record : (c : In-loop-i) → Going table_size (table_fault true c.args.width c.args.trace) stack_next c.args.piece.now (stack c.loop-i.t c.loop-i.h) c.loop-i.i c.loop-i.invariant.left
-front-record c =
-    let a = c.args in
-    let l = c.loop-i in
-    let s = stack l.t l.h in
-    let bad : table_fault true a.width a.trace s cut ≢ 0 = λ z. omega (arith, z, table-cut true a.width a.trace s) in
-    going table_size (table_fault true a.width a.trace) stack_next a.piece.now s l.i l.invariant.left l.invariant.rest bad l.invariant.fine c.loop-i-test.true
-
-turn : (c : In-loop-i) → Turn c.args.width c.args.trace c.loop-i.t c.loop-i.h c.loop-i.i c.args.piece.now
-turn c =
-    let a = c.args in
-    let l = c.loop-i in
-    let ws = a.piece.now in
-    let g = front-record c in
-    let f = table_fine true a.width a.trace (stack l.t l.h) (get_or ws l.i 0) (get_or ws (l.i + 1) 0) _ g.good in
-    let w : get_or ws l.i 0 * get_or ws (l.i + 1) 0 ≡ a.width * get_or ws (l.i + 1) 0 = ap (λ (k : ℕ). k * get_or ws (l.i + 1) 0) f.wide in
-    record { two = g.two; wide = f.wide; few = f.few; room = f.room; end = omega (arith, g.two, g.fits, w) }
-
 pub loop-i-init : goal.loop-i-init
 loop-i-init c = let a = c.args in stacking_begin a.width a.trace a.count a.high a.piece.now a.tables.now c.requires.piece_value
 
 pub overflow_add-n : goal.overflow_add-n
-overflow_add-n c = omega (arith, turn c)
+overflow_add-n c =
+    let front-record : Going table_size (table_fault true c.args.width c.args.trace) stack_next c.args.piece.now (stack c.loop-i.t c.loop-i.h) c.loop-i.i c.loop-i.invariant.left = let a = c.args in
+    let l = c.loop-i in
+    let s = stack l.t l.h in
+    let bad : table_fault true a.width a.trace s cut ≢ 0 = λ z. omega (arith, z, table-cut true a.width a.trace s) in
+    going table_size (table_fault true a.width a.trace) stack_next a.piece.now s l.i l.invariant.left l.invariant.rest bad l.invariant.fine c.loop-i-test.true in
+    let turn : Turn c.args.width c.args.trace c.loop-i.t c.loop-i.h c.loop-i.i c.args.piece.now = let a = c.args in
+    let l = c.loop-i in
+    let ws = a.piece.now in
+    let g = front-record in
+    let f = table_fine true a.width a.trace (stack l.t l.h) (get_or ws l.i 0) (get_or ws (l.i + 1) 0) _ g.good in
+    let w : get_or ws l.i 0 * get_or ws (l.i + 1) 0 ≡ a.width * get_or ws (l.i + 1) 0 = ap (λ (k : ℕ). k * get_or ws (l.i + 1) 0) f.wide in
+    record { two = g.two; wide = f.wide; few = f.few; room = f.room; end = omega (arith, g.two, g.fits, w) } in
+    omega (arith, turn)
 
 pub offset_bounds-piece-i : goal.offset_bounds-piece-i
-offset_bounds-piece-i c = omega (arith, turn c)
+offset_bounds-piece-i c =
+    let front-record : Going table_size (table_fault true c.args.width c.args.trace) stack_next c.args.piece.now (stack c.loop-i.t c.loop-i.h) c.loop-i.i c.loop-i.invariant.left = let a = c.args in
+    let l = c.loop-i in
+    let s = stack l.t l.h in
+    let bad : table_fault true a.width a.trace s cut ≢ 0 = λ z. omega (arith, z, table-cut true a.width a.trace s) in
+    going table_size (table_fault true a.width a.trace) stack_next a.piece.now s l.i l.invariant.left l.invariant.rest bad l.invariant.fine c.loop-i-test.true in
+    let turn : Turn c.args.width c.args.trace c.loop-i.t c.loop-i.h c.loop-i.i c.args.piece.now = let a = c.args in
+    let l = c.loop-i in
+    let ws = a.piece.now in
+    let g = front-record in
+    let f = table_fine true a.width a.trace (stack l.t l.h) (get_or ws l.i 0) (get_or ws (l.i + 1) 0) _ g.good in
+    let w : get_or ws l.i 0 * get_or ws (l.i + 1) 0 ≡ a.width * get_or ws (l.i + 1) 0 = ap (λ (k : ℕ). k * get_or ws (l.i + 1) 0) f.wide in
+    record { two = g.two; wide = f.wide; few = f.few; room = f.room; end = omega (arith, g.two, g.fits, w) } in
+    omega (arith, turn)
 
 pub bounds-piece-i : goal.bounds-piece-i
-bounds-piece-i c = omega (arith, turn c.before, c.requires.width_bound)
+bounds-piece-i c =
+    let front-record : Going table_size (table_fault true c.args.width c.args.trace) stack_next c.args.piece.now (stack c.loop-i.t c.loop-i.h) c.loop-i.i c.loop-i.invariant.left = let a = c.args in
+    let l = c.loop-i in
+    let s = stack l.t l.h in
+    let bad : table_fault true a.width a.trace s cut ≢ 0 = λ z. omega (arith, z, table-cut true a.width a.trace s) in
+    going table_size (table_fault true a.width a.trace) stack_next a.piece.now s l.i l.invariant.left l.invariant.rest bad l.invariant.fine c.loop-i-test.true in
+    let turn : Turn c.args.width c.args.trace c.loop-i.t c.loop-i.h c.loop-i.i c.args.piece.now = let a = c.args in
+    let l = c.loop-i in
+    let ws = a.piece.now in
+    let g = front-record in
+    let f = table_fine true a.width a.trace (stack l.t l.h) (get_or ws l.i 0) (get_or ws (l.i + 1) 0) _ g.good in
+    let w : get_or ws l.i 0 * get_or ws (l.i + 1) 0 ≡ a.width * get_or ws (l.i + 1) 0 = ap (λ (k : ℕ). k * get_or ws (l.i + 1) 0) f.wide in
+    record { two = g.two; wide = f.wide; few = f.few; room = f.room; end = omega (arith, g.two, g.fits, w) } in
+    omega (arith, turn, c.requires.width_bound)
 
 pub overflow_add-start : goal.overflow_add-start
-overflow_add-start c = omega (arith, turn c.before, c.requires.width_bound)
+overflow_add-start c =
+    let front-record : Going table_size (table_fault true c.args.width c.args.trace) stack_next c.args.piece.now (stack c.loop-i.t c.loop-i.h) c.loop-i.i c.loop-i.invariant.left = let a = c.args in
+    let l = c.loop-i in
+    let s = stack l.t l.h in
+    let bad : table_fault true a.width a.trace s cut ≢ 0 = λ z. omega (arith, z, table-cut true a.width a.trace s) in
+    going table_size (table_fault true a.width a.trace) stack_next a.piece.now s l.i l.invariant.left l.invariant.rest bad l.invariant.fine c.loop-i-test.true in
+    let turn : Turn c.args.width c.args.trace c.loop-i.t c.loop-i.h c.loop-i.i c.args.piece.now = let a = c.args in
+    let l = c.loop-i in
+    let ws = a.piece.now in
+    let g = front-record in
+    let f = table_fine true a.width a.trace (stack l.t l.h) (get_or ws l.i 0) (get_or ws (l.i + 1) 0) _ g.good in
+    let w : get_or ws l.i 0 * get_or ws (l.i + 1) 0 ≡ a.width * get_or ws (l.i + 1) 0 = ap (λ (k : ℕ). k * get_or ws (l.i + 1) 0) f.wide in
+    record { two = g.two; wide = f.wide; few = f.few; room = f.room; end = omega (arith, g.two, g.fits, w) } in
+    omega (arith, turn, c.requires.width_bound)
 
 pub overflow_mul-end : goal.overflow_mul-end
-overflow_mul-end c = omega (arith, turn c.before, c.requires.width_bound)
+overflow_mul-end c =
+    let front-record : Going table_size (table_fault true c.args.width c.args.trace) stack_next c.args.piece.now (stack c.loop-i.t c.loop-i.h) c.loop-i.i c.loop-i.invariant.left = let a = c.args in
+    let l = c.loop-i in
+    let s = stack l.t l.h in
+    let bad : table_fault true a.width a.trace s cut ≢ 0 = λ z. omega (arith, z, table-cut true a.width a.trace s) in
+    going table_size (table_fault true a.width a.trace) stack_next a.piece.now s l.i l.invariant.left l.invariant.rest bad l.invariant.fine c.loop-i-test.true in
+    let turn : Turn c.args.width c.args.trace c.loop-i.t c.loop-i.h c.loop-i.i c.args.piece.now = let a = c.args in
+    let l = c.loop-i in
+    let ws = a.piece.now in
+    let g = front-record in
+    let f = table_fine true a.width a.trace (stack l.t l.h) (get_or ws l.i 0) (get_or ws (l.i + 1) 0) _ g.good in
+    let w : get_or ws l.i 0 * get_or ws (l.i + 1) 0 ≡ a.width * get_or ws (l.i + 1) 0 = ap (λ (k : ℕ). k * get_or ws (l.i + 1) 0) f.wide in
+    record { two = g.two; wide = f.wide; few = f.few; room = f.room; end = omega (arith, g.two, g.fits, w) } in
+    omega (arith, turn, c.requires.width_bound)
 
 pub overflow_add-end : goal.overflow_add-end
-overflow_add-end c = omega (arith, turn c.before, c.requires.width_bound)
+overflow_add-end c =
+    let front-record : Going table_size (table_fault true c.args.width c.args.trace) stack_next c.args.piece.now (stack c.loop-i.t c.loop-i.h) c.loop-i.i c.loop-i.invariant.left = let a = c.args in
+    let l = c.loop-i in
+    let s = stack l.t l.h in
+    let bad : table_fault true a.width a.trace s cut ≢ 0 = λ z. omega (arith, z, table-cut true a.width a.trace s) in
+    going table_size (table_fault true a.width a.trace) stack_next a.piece.now s l.i l.invariant.left l.invariant.rest bad l.invariant.fine c.loop-i-test.true in
+    let turn : Turn c.args.width c.args.trace c.loop-i.t c.loop-i.h c.loop-i.i c.args.piece.now = let a = c.args in
+    let l = c.loop-i in
+    let ws = a.piece.now in
+    let g = front-record in
+    let f = table_fine true a.width a.trace (stack l.t l.h) (get_or ws l.i 0) (get_or ws (l.i + 1) 0) _ g.good in
+    let w : get_or ws l.i 0 * get_or ws (l.i + 1) 0 ≡ a.width * get_or ws (l.i + 1) 0 = ap (λ (k : ℕ). k * get_or ws (l.i + 1) 0) f.wide in
+    record { two = g.two; wide = f.wide; few = f.few; room = f.room; end = omega (arith, g.two, g.fits, w) } in
+    omega (arith, turn, c.requires.width_bound)
 
 pub overflow_add-t : goal.overflow_add-t
-overflow_add-t c = omega (arith, turn c.before, c.requires.width_bound)
+overflow_add-t c =
+    let front-record : Going table_size (table_fault true c.args.width c.args.trace) stack_next c.args.piece.now (stack c.loop-i.t c.loop-i.h) c.loop-i.i c.loop-i.invariant.left = let a = c.args in
+    let l = c.loop-i in
+    let s = stack l.t l.h in
+    let bad : table_fault true a.width a.trace s cut ≢ 0 = λ z. omega (arith, z, table-cut true a.width a.trace s) in
+    going table_size (table_fault true a.width a.trace) stack_next a.piece.now s l.i l.invariant.left l.invariant.rest bad l.invariant.fine c.loop-i-test.true in
+    let turn : Turn c.args.width c.args.trace c.loop-i.t c.loop-i.h c.loop-i.i c.args.piece.now = let a = c.args in
+    let l = c.loop-i in
+    let ws = a.piece.now in
+    let g = front-record in
+    let f = table_fine true a.width a.trace (stack l.t l.h) (get_or ws l.i 0) (get_or ws (l.i + 1) 0) _ g.good in
+    let w : get_or ws l.i 0 * get_or ws (l.i + 1) 0 ≡ a.width * get_or ws (l.i + 1) 0 = ap (λ (k : ℕ). k * get_or ws (l.i + 1) 0) f.wide in
+    record { two = g.two; wide = f.wide; few = f.few; room = f.room; end = omega (arith, g.two, g.fits, w) } in
+    omega (arith, turn, c.requires.width_bound)
 
 pub offset_bounds-piece-start : goal.offset_bounds-piece-start
-offset_bounds-piece-start c = omega (arith, turn c.before, c.requires.width_bound)
+offset_bounds-piece-start c =
+    let front-record : Going table_size (table_fault true c.args.width c.args.trace) stack_next c.args.piece.now (stack c.loop-i.t c.loop-i.h) c.loop-i.i c.loop-i.invariant.left = let a = c.args in
+    let l = c.loop-i in
+    let s = stack l.t l.h in
+    let bad : table_fault true a.width a.trace s cut ≢ 0 = λ z. omega (arith, z, table-cut true a.width a.trace s) in
+    going table_size (table_fault true a.width a.trace) stack_next a.piece.now s l.i l.invariant.left l.invariant.rest bad l.invariant.fine c.loop-i-test.true in
+    let turn : Turn c.args.width c.args.trace c.loop-i.t c.loop-i.h c.loop-i.i c.args.piece.now = let a = c.args in
+    let l = c.loop-i in
+    let ws = a.piece.now in
+    let g = front-record in
+    let f = table_fine true a.width a.trace (stack l.t l.h) (get_or ws l.i 0) (get_or ws (l.i + 1) 0) _ g.good in
+    let w : get_or ws l.i 0 * get_or ws (l.i + 1) 0 ≡ a.width * get_or ws (l.i + 1) 0 = ap (λ (k : ℕ). k * get_or ws (l.i + 1) 0) f.wide in
+    record { two = g.two; wide = f.wide; few = f.few; room = f.room; end = omega (arith, g.two, g.fits, w) } in
+    omega (arith, turn, c.requires.width_bound)
 
 pub slice_bounds-write_table-count : goal.slice_bounds-write_table-count
-slice_bounds-write_table-count c = omega (arith, turn c.before, c.requires.width_bound)
+slice_bounds-write_table-count c =
+    let front-record : Going table_size (table_fault true c.args.width c.args.trace) stack_next c.args.piece.now (stack c.loop-i.t c.loop-i.h) c.loop-i.i c.loop-i.invariant.left = let a = c.args in
+    let l = c.loop-i in
+    let s = stack l.t l.h in
+    let bad : table_fault true a.width a.trace s cut ≢ 0 = λ z. omega (arith, z, table-cut true a.width a.trace s) in
+    going table_size (table_fault true a.width a.trace) stack_next a.piece.now s l.i l.invariant.left l.invariant.rest bad l.invariant.fine c.loop-i-test.true in
+    let turn : Turn c.args.width c.args.trace c.loop-i.t c.loop-i.h c.loop-i.i c.args.piece.now = let a = c.args in
+    let l = c.loop-i in
+    let ws = a.piece.now in
+    let g = front-record in
+    let f = table_fine true a.width a.trace (stack l.t l.h) (get_or ws l.i 0) (get_or ws (l.i + 1) 0) _ g.good in
+    let w : get_or ws l.i 0 * get_or ws (l.i + 1) 0 ≡ a.width * get_or ws (l.i + 1) 0 = ap (λ (k : ℕ). k * get_or ws (l.i + 1) 0) f.wide in
+    record { two = g.two; wide = f.wide; few = f.few; room = f.room; end = omega (arith, g.two, g.fits, w) } in
+    omega (arith, turn, c.requires.width_bound)
 
 pub slice_bounds-write_table-start : goal.slice_bounds-write_table-start
-slice_bounds-write_table-start c = omega (arith, turn c.before, c.requires.width_bound)
+slice_bounds-write_table-start c =
+    let front-record : Going table_size (table_fault true c.args.width c.args.trace) stack_next c.args.piece.now (stack c.loop-i.t c.loop-i.h) c.loop-i.i c.loop-i.invariant.left = let a = c.args in
+    let l = c.loop-i in
+    let s = stack l.t l.h in
+    let bad : table_fault true a.width a.trace s cut ≢ 0 = λ z. omega (arith, z, table-cut true a.width a.trace s) in
+    going table_size (table_fault true a.width a.trace) stack_next a.piece.now s l.i l.invariant.left l.invariant.rest bad l.invariant.fine c.loop-i-test.true in
+    let turn : Turn c.args.width c.args.trace c.loop-i.t c.loop-i.h c.loop-i.i c.args.piece.now = let a = c.args in
+    let l = c.loop-i in
+    let ws = a.piece.now in
+    let g = front-record in
+    let f = table_fine true a.width a.trace (stack l.t l.h) (get_or ws l.i 0) (get_or ws (l.i + 1) 0) _ g.good in
+    let w : get_or ws l.i 0 * get_or ws (l.i + 1) 0 ≡ a.width * get_or ws (l.i + 1) 0 = ap (λ (k : ℕ). k * get_or ws (l.i + 1) 0) f.wide in
+    record { two = g.two; wide = f.wide; few = f.few; room = f.room; end = omega (arith, g.two, g.fits, w) } in
+    omega (arith, turn, c.requires.width_bound)
 
 pub slice_bounds-write_table-end : goal.slice_bounds-write_table-end
-slice_bounds-write_table-end c = omega (arith, turn c.before, c.requires.width_bound)
+slice_bounds-write_table-end c =
+    let front-record : Going table_size (table_fault true c.args.width c.args.trace) stack_next c.args.piece.now (stack c.loop-i.t c.loop-i.h) c.loop-i.i c.loop-i.invariant.left = let a = c.args in
+    let l = c.loop-i in
+    let s = stack l.t l.h in
+    let bad : table_fault true a.width a.trace s cut ≢ 0 = λ z. omega (arith, z, table-cut true a.width a.trace s) in
+    going table_size (table_fault true a.width a.trace) stack_next a.piece.now s l.i l.invariant.left l.invariant.rest bad l.invariant.fine c.loop-i-test.true in
+    let turn : Turn c.args.width c.args.trace c.loop-i.t c.loop-i.h c.loop-i.i c.args.piece.now = let a = c.args in
+    let l = c.loop-i in
+    let ws = a.piece.now in
+    let g = front-record in
+    let f = table_fine true a.width a.trace (stack l.t l.h) (get_or ws l.i 0) (get_or ws (l.i + 1) 0) _ g.good in
+    let w : get_or ws l.i 0 * get_or ws (l.i + 1) 0 ≡ a.width * get_or ws (l.i + 1) 0 = ap (λ (k : ℕ). k * get_or ws (l.i + 1) 0) f.wide in
+    record { two = g.two; wide = f.wide; few = f.few; room = f.room; end = omega (arith, g.two, g.fits, w) } in
+    omega (arith, turn, c.requires.width_bound)
 
 pub write_table-requires : goal.write_table-requires
 write_table-requires c =
+    let front-record : Going table_size (table_fault true c.args.width c.args.trace) stack_next c.args.piece.now (stack c.loop-i.t c.loop-i.h) c.loop-i.i c.loop-i.invariant.left = let a = c.args in
+    let l = c.loop-i in
+    let s = stack l.t l.h in
+    let bad : table_fault true a.width a.trace s cut ≢ 0 = λ z. omega (arith, z, table-cut true a.width a.trace s) in
+    going table_size (table_fault true a.width a.trace) stack_next a.piece.now s l.i l.invariant.left l.invariant.rest bad l.invariant.fine c.loop-i-test.true in
+    let turn : Turn c.args.width c.args.trace c.loop-i.t c.loop-i.h c.loop-i.i c.args.piece.now = let a = c.args in
+    let l = c.loop-i in
+    let ws = a.piece.now in
+    let g = front-record in
+    let f = table_fine true a.width a.trace (stack l.t l.h) (get_or ws l.i 0) (get_or ws (l.i + 1) 0) _ g.good in
+    let w : get_or ws l.i 0 * get_or ws (l.i + 1) 0 ≡ a.width * get_or ws (l.i + 1) 0 = ap (λ (k : ℕ). k * get_or ws (l.i + 1) 0) f.wide in
+    record { two = g.two; wide = f.wide; few = f.few; room = f.room; end = omega (arith, g.two, g.fits, w) } in
     let a = c.args in
     let l = c.loop-i in
-    let t = turn c.before.before.before in
+    let t = turn in
     let n = part_length a.piece.now (l.i + 2) (a.width * get_or a.piece.now (l.i + 1) 0) t.end in
     record { width_bound = (c.requires.width_bound.0, c.requires.width_bound.1, t.room, n); trace_in_bounds = omega (arith, c.requires.width_bound.4, l.invariant.long) }
 
 pub overflow_add-h : goal.overflow_add-h
-overflow_add-h c = omega (arith, turn c.before.before.before.before.before.before, c.requires.width_bound)
+overflow_add-h c =
+    let front-record : Going table_size (table_fault true c.args.width c.args.trace) stack_next c.args.piece.now (stack c.loop-i.t c.loop-i.h) c.loop-i.i c.loop-i.invariant.left = let a = c.args in
+    let l = c.loop-i in
+    let s = stack l.t l.h in
+    let bad : table_fault true a.width a.trace s cut ≢ 0 = λ z. omega (arith, z, table-cut true a.width a.trace s) in
+    going table_size (table_fault true a.width a.trace) stack_next a.piece.now s l.i l.invariant.left l.invariant.rest bad l.invariant.fine c.loop-i-test.true in
+    let turn : Turn c.args.width c.args.trace c.loop-i.t c.loop-i.h c.loop-i.i c.args.piece.now = let a = c.args in
+    let l = c.loop-i in
+    let ws = a.piece.now in
+    let g = front-record in
+    let f = table_fine true a.width a.trace (stack l.t l.h) (get_or ws l.i 0) (get_or ws (l.i + 1) 0) _ g.good in
+    let w : get_or ws l.i 0 * get_or ws (l.i + 1) 0 ≡ a.width * get_or ws (l.i + 1) 0 = ap (λ (k : ℕ). k * get_or ws (l.i + 1) 0) f.wide in
+    record { two = g.two; wide = f.wide; few = f.few; room = f.room; end = omega (arith, g.two, g.fits, w) } in
+    omega (arith, turn, c.requires.width_bound)
 
 pub loop-i-smaller : goal.loop-i-smaller
-loop-i-smaller c = omega (arith, turn c.before.before.before.before.before.before)
+loop-i-smaller c =
+    let front-record : Going table_size (table_fault true c.args.width c.args.trace) stack_next c.args.piece.now (stack c.loop-i.t c.loop-i.h) c.loop-i.i c.loop-i.invariant.left = let a = c.args in
+    let l = c.loop-i in
+    let s = stack l.t l.h in
+    let bad : table_fault true a.width a.trace s cut ≢ 0 = λ z. omega (arith, z, table-cut true a.width a.trace s) in
+    going table_size (table_fault true a.width a.trace) stack_next a.piece.now s l.i l.invariant.left l.invariant.rest bad l.invariant.fine c.loop-i-test.true in
+    let turn : Turn c.args.width c.args.trace c.loop-i.t c.loop-i.h c.loop-i.i c.args.piece.now = let a = c.args in
+    let l = c.loop-i in
+    let ws = a.piece.now in
+    let g = front-record in
+    let f = table_fine true a.width a.trace (stack l.t l.h) (get_or ws l.i 0) (get_or ws (l.i + 1) 0) _ g.good in
+    let w : get_or ws l.i 0 * get_or ws (l.i + 1) 0 ≡ a.width * get_or ws (l.i + 1) 0 = ap (λ (k : ℕ). k * get_or ws (l.i + 1) 0) f.wide in
+    record { two = g.two; wide = f.wide; few = f.few; room = f.room; end = omega (arith, g.two, g.fits, w) } in
+    omega (arith, turn)
 
 pub loop-i-preserved : goal.loop-i-preserved
 loop-i-preserved c =
+    let front-record : Going table_size (table_fault true c.args.width c.args.trace) stack_next c.args.piece.now (stack c.loop-i.t c.loop-i.h) c.loop-i.i c.loop-i.invariant.left = let a = c.args in
+    let l = c.loop-i in
+    let s = stack l.t l.h in
+    let bad : table_fault true a.width a.trace s cut ≢ 0 = λ z. omega (arith, z, table-cut true a.width a.trace s) in
+    going table_size (table_fault true a.width a.trace) stack_next a.piece.now s l.i l.invariant.left l.invariant.rest bad l.invariant.fine c.loop-i-test.true in
+    let turn : Turn c.args.width c.args.trace c.loop-i.t c.loop-i.h c.loop-i.i c.args.piece.now = let a = c.args in
+    let l = c.loop-i in
+    let ws = a.piece.now in
+    let g = front-record in
+    let f = table_fine true a.width a.trace (stack l.t l.h) (get_or ws l.i 0) (get_or ws (l.i + 1) 0) _ g.good in
+    let w : get_or ws l.i 0 * get_or ws (l.i + 1) 0 ≡ a.width * get_or ws (l.i + 1) 0 = ap (λ (k : ℕ). k * get_or ws (l.i + 1) 0) f.wide in
+    record { two = g.two; wide = f.wide; few = f.few; room = f.room; end = omega (arith, g.two, g.fits, w) } in
     let a = c.args in
     let l = c.loop-i in
-    let t = turn c.before.before.before.before.before.before in
+    let t = turn in
     let w = c.write_table in
     let e = part_is a.piece.now (l.i + 2) (a.width * get_or a.piece.now (l.i + 1) 0) in
-    stacking_next a.width a.trace a.count a.high a.piece.now a.tables.now l.tables l.t l.h l.i l.invariant (front-record c.before.before.before.before.before.before) t.wide _ w.auto.1.1.1.1.1.1.0 (rw e at w.ensures)
+    stacking_next a.width a.trace a.count a.high a.piece.now a.tables.now l.tables l.t l.h l.i l.invariant (front-record) t.wide _ w.auto.1.1.1.1.1.1.0 (rw e at w.ensures)
 
 pub shape_of-tables : goal.shape_of-tables
 shape_of-tables c = c.loop-i.invariant.long

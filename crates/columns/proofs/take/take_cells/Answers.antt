@@ -11,25 +11,12 @@ use Rattle.columns.specs.declared.intake.Intake.{Intake}
 use Rattle.pieces.specs.Cells.{cells_fault, cells_number}
 use Rattle.pieces.specs.CellLaws.{cells_room, cells_named}
 use Rattle.columns.specs.IntakeLaws.{plan_fine, cells_19, cells_10_copies, cells_10_scratch, cells_own, cells_refused, cells_taken}
-use Rattle.columns.proofs.take.take_cells.Goals.{After-cells_fault-fault, Else-fault-ne0, Start, Then-stands}
+use Rattle.columns.proofs.take.take_cells.Goals.{After-cells_fault-fault, Else-fault-ne0, Start}
 use Rattle.columns.proofs.take.take_cells.Goals as goal
 
 -- the state in parts
 abbrev held : Start → Intake
 held c = intake_in c.args.outline c.args.gates.now c.args.nodes.now c.args.counts []
-
--- the state stands, so its plan is sound and its counts are within
-upright : (c : Then-stands) → stands (setting_of (held c).plan) (state_of (held c)) ≡ true
-upright c = sym (c.stands.ensures []) ∙ c.if-stands.taken
-
-no_fault : (c : Then-stands) → plan_fault (held c).plan ≡ 0
-no_fault c = plan_fine (held c.before.before.before.before.before.before.before) (upright c)
-
-fine : (c : Then-stands) → Sound (held c).plan
-fine c = sound (held c.before.before.before.before.before.before.before).plan (no_fault c)
-
-counts : (c : Then-stands) → Counted (setting_of (held c).plan) (state_of (held c))
-counts c = (stood (setting_of (held c.before.before.before.before.before.before.before).plan) (state_of (held c.before.before.before.before.before.before.before)) (upright c)).counts
 
 product : (a n b : ℕ) → a ≤ b → n ≤ 65536 → a * n ≤ b * 65536
 product a n b h k = mul-le-mul h k
@@ -51,37 +38,49 @@ ends c =
     cells_room (a.outline.copy * a.outline.trace) a.outline.variables a.counts.cells a.piece.now (counts c.before.before.before.before.before.before.before.before).cells_in (clean c)
 
 pub rooms_of-rooms-requires : goal.rooms_of-rooms-requires
-rooms_of-rooms-requires c = let a = c.args in small a.outline a.gates.now a.nodes.now (no_fault c)
+rooms_of-rooms-requires c =
+    let upright : stands (setting_of (held c.before.before.before.before.before.before.before).plan) (state_of (held c.before.before.before.before.before.before.before)) ≡ true = sym (c.stands.ensures []) ∙ c.if-stands.taken in
+    let no_fault : plan_fault (held c.before.before.before.before.before.before.before).plan ≡ 0 = plan_fine (held c.before.before.before.before.before.before.before) (upright) in
+    let a = c.args in small a.outline a.gates.now a.nodes.now (no_fault)
 
 pub returns-then-copies-rooms : goal.returns-then-copies-rooms
 returns-then-copies-rooms c =
+    let upright : stands (setting_of (held c.before.before.before.before.before.before.before).plan) (state_of (held c.before.before.before.before.before.before.before)) ≡ true = sym (c.stands.ensures []) ∙ c.if-stands.taken in
     let s = held c.before.before.before.before.before.before.before.before.before.before.before in
     let a = c.args in
     let b = cols a.copies.now a.scratch.now in
     let r = c.rooms_of-rooms.ensures a.gates.now a.nodes.now in
-    let k = cells_refused s a.piece.now b 10 (cells_10_copies s a.piece.now b (upright c.before.before.before.before) (omega (arith, c.if-copies-rooms.taken, r.copies_are))) (λ z. omega arith) in
+    let k = cells_refused s a.piece.now b 10 (cells_10_copies s a.piece.now b (upright) (omega (arith, c.if-copies-rooms.taken, r.copies_are))) (λ z. omega arith) in
     record { value = c.give.ensures ∙ ap given_of k.0; scratch_after = k.1 }
 
 pub returns-then-scratch-rooms : goal.returns-then-scratch-rooms
 returns-then-scratch-rooms c =
+    let upright : stands (setting_of (held c.before.before.before.before.before.before.before).plan) (state_of (held c.before.before.before.before.before.before.before)) ≡ true = sym (c.stands.ensures []) ∙ c.if-stands.taken in
     let s = held c.before.before.before.before.before.before.before.before.before.before.before.before.before in
     let a = c.args in
     let b = cols a.copies.now a.scratch.now in
     let r = c.rooms_of-rooms.ensures a.gates.now a.nodes.now in
-    let k = cells_refused s a.piece.now b 10 (cells_10_scratch s a.piece.now b (upright c.before.before.before.before.before.before) (omega (arith, c.if-copies-rooms.left, r.copies_are)) (omega (arith, c.if-scratch-rooms.taken, r.scratch_is))) (λ z. omega arith) in
+    let k = cells_refused s a.piece.now b 10 (cells_10_scratch s a.piece.now b (upright) (omega (arith, c.if-copies-rooms.left, r.copies_are)) (omega (arith, c.if-scratch-rooms.taken, r.scratch_is))) (λ z. omega arith) in
     record { value = c.give-then-scratch-rooms.ensures ∙ ap given_of k.0; scratch_after = k.1 }
 
 pub overflow_mul-total : goal.overflow_mul-total
 overflow_mul-total c =
+    let upright : stands (setting_of (held c.before.before.before.before.before.before.before).plan) (state_of (held c.before.before.before.before.before.before.before)) ≡ true = sym (c.stands.ensures []) ∙ c.if-stands.taken in
+    let no_fault : plan_fault (held c.before.before.before.before.before.before.before).plan ≡ 0 = plan_fine (held c.before.before.before.before.before.before.before) (upright) in
+    let fine : Sound (held c.before.before.before.before.before.before.before).plan = sound (held c.before.before.before.before.before.before.before).plan (no_fault) in
     let q = c.args.outline in
-    let w = fine c.before.before.before.before.before.before in
+    let w = fine in
     omega (arith, product q.copy q.trace 64 w.ranges.columns w.ranges.long)
 
 pub cells_fault-fault-requires : goal.cells_fault-fault-requires
 cells_fault-fault-requires c =
+    let upright : stands (setting_of (held c.before.before.before.before.before.before.before).plan) (state_of (held c.before.before.before.before.before.before.before)) ≡ true = sym (c.stands.ensures []) ∙ c.if-stands.taken in
+    let no_fault : plan_fault (held c.before.before.before.before.before.before.before).plan ≡ 0 = plan_fine (held c.before.before.before.before.before.before.before) (upright) in
+    let fine : Sound (held c.before.before.before.before.before.before.before).plan = sound (held c.before.before.before.before.before.before.before).plan (no_fault) in
+    let counts : Counted (setting_of (held c.before.before.before.before.before.before.before).plan) (state_of (held c.before.before.before.before.before.before.before)) = (stood (setting_of (held c.before.before.before.before.before.before.before).plan) (state_of (held c.before.before.before.before.before.before.before)) (upright)).counts in
     let q = c.args.outline in
-    let w = fine c.before.before.before.before.before.before in
-    ((counts c.before.before.before.before.before.before).cells_in, omega (arith, product q.copy q.trace 64 w.ranges.columns w.ranges.long))
+    let w = fine in
+    ((counts).cells_in, omega (arith, product q.copy q.trace 64 w.ranges.columns w.ranges.long))
 
 pub returns-then-fault-ne0 : goal.returns-then-fault-ne0
 returns-then-fault-ne0 c =
@@ -96,8 +95,11 @@ place_cells-requires c =
 
 pub overflow_add-counts : goal.overflow_add-counts
 overflow_add-counts c =
+    let upright : stands (setting_of (held c.before.before.before.before.before.before.before).plan) (state_of (held c.before.before.before.before.before.before.before)) ≡ true = sym (c.stands.ensures []) ∙ c.if-stands.taken in
+    let no_fault : plan_fault (held c.before.before.before.before.before.before.before).plan ≡ 0 = plan_fine (held c.before.before.before.before.before.before.before) (upright) in
+    let fine : Sound (held c.before.before.before.before.before.before.before).plan = sound (held c.before.before.before.before.before.before.before).plan (no_fault) in
     let q = c.args.outline in
-    let w = fine c.before.before.before.before.before.before.before.before.before.before.before.before.before.before.before.before in
+    let w = fine in
     omega (arith, product q.copy q.trace 64 w.ranges.columns w.ranges.long, ends c.before.before.before.before.before.before.before.before)
 
 pub returns-then-stands : goal.returns-then-stands

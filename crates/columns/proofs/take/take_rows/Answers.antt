@@ -13,33 +13,12 @@ use Rattle.columns.specs.GivenLaws.{small}
 use Rattle.columns.specs.IntakeLaws.{falls_plan, falls_phase, stands_counts, rows_19, rows_10, rows_own, rows_refused, rows_taken}
 use Rattle.columns.specs.declared.intake.Intake.{Intake}
 use Rattle.columns.proofs.RowLoop.{GatesOf, gates-of, gates-number, gates_fault}
-use Rattle.columns.proofs.take.take_rows.Goals.{After-test_rows-tested, Else-constants-rooms_of, Else-told-ne0, Start, Then-counts_fit}
+use Rattle.columns.proofs.take.take_rows.Goals.{After-test_rows-tested, Else-constants-rooms_of, Start}
 use Rattle.columns.proofs.take.take_rows.Goals as goal
 
 -- the state in parts
 abbrev held : Start → Intake
 held c = intake_in c.args.outline c.args.gates.now c.args.nodes.now c.args.counts c.args.used
-
--- the plan has no fault, so that it is sound and its gates are as answered
-no_fault : (c : Else-told-ne0) → plan_fault (held c).plan ≡ 0
-no_fault c = let g = c.parts_rows-told in (gates-number (held c.before.before.before.before.before.before.before).plan g.result g.ensures).0 c.if-told-ne0.left
-
-fine : (c : Else-told-ne0) → Sound (held c).plan
-fine c = sound (held c.before.before.before.before.before.before.before).plan (no_fault c)
-
-gates : (c : Else-told-ne0) → GatesOf (held c).plan c.parts_rows-told.result
-gates c = gates-of (held c.before.before.before.before.before.before.before).plan c.parts_rows-told.result (no_fault c) c.parts_rows-told.ensures
-
--- a state that stands has counts within its sections
-upright : (c : Then-counts_fit) → stands (setting_of (held c).plan) (state_of (held c)) ≡ true
-upright c =
-    let a = c.args in
-    stands_counts (held c.before.before.before.before.before.before.before.before.before.before.before) (no_fault c.before.before.before.before) c.if-counts-ne-OPEN.left ∙ sym (c.counts_fit.ensures a.gates.now a.nodes.now a.used) ∙ c.if-counts_fit.taken
-
-counts : (c : Then-counts_fit) → Counted (setting_of (held c).plan) (state_of (held c))
-counts c =
-    let a = c.args in
-    counted (setting_of (held c.before.before.before.before.before.before.before.before.before.before.before).plan) (state_of (held c.before.before.before.before.before.before.before.before.before.before.before)) (sym (c.counts_fit.ensures a.gates.now a.nodes.now a.used) ∙ c.if-counts_fit.taken)
 
 -- the constant buffer has its named words
 room : (c : Else-constants-rooms_of) → let q = c.args.outline in (q.told.constants + q.specialised) * q.trace ≤ length c.args.constants.now
@@ -64,30 +43,43 @@ returns-then-told-ne0 c =
 
 pub returns-then-counts-ne-OPEN : goal.returns-then-counts-ne-OPEN
 returns-then-counts-ne-OPEN c =
+    let no_fault : plan_fault (held c.before.before.before.before.before.before.before).plan ≡ 0 = let g = c.parts_rows-told in (gates-number (held c.before.before.before.before.before.before.before).plan g.result g.ensures).0 c.if-told-ne0.left in
     let s = held c.before.before.before.before.before.before.before.before.before.before in
     let a = c.args in
-    let d = falls_phase s (no_fault c.before.before.before) c.if-counts-ne-OPEN.taken in
+    let d = falls_phase s (no_fault) c.if-counts-ne-OPEN.taken in
     let k = rows_refused s a.piece.now a.constants.now 19 (rows_19 s a.piece.now a.constants.now d) (λ z. omega arith) in
     record { value = c.give_marked-then-counts-ne-OPEN.ensures ∙ ap marked_of k.0; constants_after = k.1 }
 
 pub counts_fit-requires : goal.counts_fit-requires
-counts_fit-requires c = let a = c.args in small a.outline a.gates.now a.nodes.now (no_fault c.before.before)
+counts_fit-requires c =
+    let no_fault : plan_fault (held c.before.before.before.before.before.before.before).plan ≡ 0 = let g = c.parts_rows-told in (gates-number (held c.before.before.before.before.before.before.before).plan g.result g.ensures).0 c.if-told-ne0.left in
+    let a = c.args in small a.outline a.gates.now a.nodes.now (no_fault)
 
 pub rooms_of-requires : goal.rooms_of-requires
-rooms_of-requires c = let a = c.args in small a.outline a.gates.now a.nodes.now (no_fault c.before.before.before.before)
+rooms_of-requires c =
+    let no_fault : plan_fault (held c.before.before.before.before.before.before.before).plan ≡ 0 = let g = c.parts_rows-told in (gates-number (held c.before.before.before.before.before.before.before).plan g.result g.ensures).0 c.if-told-ne0.left in
+    let a = c.args in small a.outline a.gates.now a.nodes.now (no_fault)
 
 pub returns-then-constants-rooms_of : goal.returns-then-constants-rooms_of
 returns-then-constants-rooms_of c =
+    let no_fault : plan_fault (held c.before.before.before.before.before.before.before).plan ≡ 0 = let g = c.parts_rows-told in (gates-number (held c.before.before.before.before.before.before.before).plan g.result g.ensures).0 c.if-told-ne0.left in
+    let upright : stands (setting_of (held c.before.before.before.before.before.before.before.before.before.before.before).plan) (state_of (held c.before.before.before.before.before.before.before.before.before.before.before)) ≡ true = let a = c.args in
+    stands_counts (held c.before.before.before.before.before.before.before.before.before.before.before) (no_fault) c.if-counts-ne-OPEN.left ∙ sym (c.counts_fit.ensures a.gates.now a.nodes.now a.used) ∙ c.if-counts_fit.taken in
     let s = held c.before.before.before.before.before.before.before.before.before.before.before.before.before.before.before in
     let a = c.args in
     let r = c.rooms_of.ensures a.gates.now a.nodes.now in
-    let k = rows_refused s a.piece.now a.constants.now 10 (rows_10 s a.piece.now a.constants.now (upright c.before.before.before.before) (omega (arith, c.if-constants-rooms_of.taken, r.constants_are))) (λ z. omega arith) in
+    let k = rows_refused s a.piece.now a.constants.now 10 (rows_10 s a.piece.now a.constants.now (upright) (omega (arith, c.if-constants-rooms_of.taken, r.constants_are))) (λ z. omega arith) in
     record { value = c.give_marked-then-constants-rooms_of.ensures ∙ ap marked_of k.0; constants_after = k.1 }
 
 pub test_rows-tested-requires : goal.test_rows-tested-requires
 test_rows-tested-requires c =
-    let w = fine c.before.before.before.before.before.before.before.before.before.before.before.before in
-    (omega (arith, w.few_gates, (gates c.before.before.before.before.before.before.before.before.before.before.before.before).alike.many_same), (counts c.before.before.before.before.before.before.before.before).rows_in, w.ranges.long)
+    let no_fault : plan_fault (held c.before.before.before.before.before.before.before).plan ≡ 0 = let g = c.parts_rows-told in (gates-number (held c.before.before.before.before.before.before.before).plan g.result g.ensures).0 c.if-told-ne0.left in
+    let fine : Sound (held c.before.before.before.before.before.before.before).plan = sound (held c.before.before.before.before.before.before.before).plan (no_fault) in
+    let gates : GatesOf (held c.before.before.before.before.before.before.before).plan c.parts_rows-told.result = gates-of (held c.before.before.before.before.before.before.before).plan c.parts_rows-told.result (no_fault) c.parts_rows-told.ensures in
+    let counts : Counted (setting_of (held c.before.before.before.before.before.before.before.before.before.before.before).plan) (state_of (held c.before.before.before.before.before.before.before.before.before.before.before)) = let a = c.args in
+    counted (setting_of (held c.before.before.before.before.before.before.before.before.before.before.before).plan) (state_of (held c.before.before.before.before.before.before.before.before.before.before.before)) (sym (c.counts_fit.ensures a.gates.now a.nodes.now a.used) ∙ c.if-counts_fit.taken) in
+    let w = fine in
+    (omega (arith, w.few_gates, (gates).alike.many_same), (counts).rows_in, w.ranges.long)
 
 pub returns-then-tested-ne0 : goal.returns-then-tested-ne0
 returns-then-tested-ne0 c =
@@ -97,29 +89,32 @@ returns-then-tested-ne0 c =
 
 pub write_rows-requires : goal.write_rows-requires
 write_rows-requires c =
+    let no_fault : plan_fault (held c.before.before.before.before.before.before.before).plan ≡ 0 = let g = c.parts_rows-told in (gates-number (held c.before.before.before.before.before.before.before).plan g.result g.ensures).0 c.if-told-ne0.left in
+    let fine : Sound (held c.before.before.before.before.before.before.before).plan = sound (held c.before.before.before.before.before.before.before).plan (no_fault) in
+    let gates : GatesOf (held c.before.before.before.before.before.before.before).plan c.parts_rows-told.result = gates-of (held c.before.before.before.before.before.before.before).plan c.parts_rows-told.result (no_fault) c.parts_rows-told.ensures in
     let a = c.args in
     let q = a.outline in
-    let w = fine c.before.before.before.before.before.before.before.before.before.before.before.before.before.before.before.before in
-    let g = gates c.before.before.before.before.before.before.before.before.before.before.before.before.before.before.before.before in
-    let h : q.told.constants * q.trace ≤ length a.constants.now = omega (arith, room c.before.before.before.before.before.before.before.before.before) in (
-      (w.ranges.long, omega (arith, w.height), omega (arith, w.few_gates, g.alike.many_same), h),
-      (g.room, sym c.test_rows-tested.ensures.number_value ∙ c.if-tested-ne0.left),
-    )
+    let w = fine in
+    let g = gates in
+    let h : q.told.constants * q.trace ≤ length a.constants.now = omega (arith, room c.before.before.before.before.before.before.before.before.before) in record { trace_bound = (w.ranges.long, omega (arith, w.height), omega (arith, w.few_gates, g.alike.many_same), h); fits = g.room; piece_value = sym c.test_rows-tested.ensures.number_value ∙ c.if-tested-ne0.left }
 
 pub returns-then-counts_fit : goal.returns-then-counts_fit
 unfolding rows_written
 returns-then-counts_fit c =
+    let no_fault : plan_fault (held c.before.before.before.before.before.before.before).plan ≡ 0 = let g = c.parts_rows-told in (gates-number (held c.before.before.before.before.before.before.before).plan g.result g.ensures).0 c.if-told-ne0.left in
+    let gates : GatesOf (held c.before.before.before.before.before.before.before).plan c.parts_rows-told.result = gates-of (held c.before.before.before.before.before.before.before).plan c.parts_rows-told.result (no_fault) c.parts_rows-told.ensures in
     let s = held c.before.before.before.before.before.before.before.before.before.before.before.before.before.before.before.before.before.before.before.before.before.before.before.before.before.before.before in
     let a = c.args in
     let z = c.if-tested-ne0.left in
     let k = rows_taken s a.piece.now a.constants.now (own c.before.before.before.before.before.before.before ∙ z) in
     let m = c.test_rows-tested.ensures.rows_value z in
-    record { value = c.give_marked-then-counts_fit.ensures ∙ rw (m.0, m.1) (ap marked_of k.0); constants_after = c.write_rows.ensures (plan_path s.plan) (gates c.before.before.before.before.before.before.before.before.before.before.before.before.before.before.before.before.before.before.before.before).spells_paths ∙ k.1 }
+    record { value = c.give_marked-then-counts_fit.ensures ∙ rw (m.0, m.1) (ap marked_of k.0); constants_after = c.write_rows.ensures (plan_path s.plan) (gates).spells_paths ∙ k.1 }
 
 pub returns : goal.returns
 returns c =
+    let no_fault : plan_fault (held c.before.before.before.before.before.before.before).plan ≡ 0 = let g = c.parts_rows-told in (gates-number (held c.before.before.before.before.before.before.before).plan g.result g.ensures).0 c.if-told-ne0.left in
     let s = held c.before.before.before.before.before.before.before.before.before.before.before.before in
     let a = c.args in
-    let d = stands_counts s (no_fault c.before.before.before.before.before) c.if-counts-ne-OPEN.left ∙ sym (c.counts_fit.ensures a.gates.now a.nodes.now a.used) ∙ c.if-counts_fit.left in
+    let d = stands_counts s (no_fault) c.if-counts-ne-OPEN.left ∙ sym (c.counts_fit.ensures a.gates.now a.nodes.now a.used) ∙ c.if-counts_fit.left in
     let k = rows_refused s a.piece.now a.constants.now 19 (rows_19 s a.piece.now a.constants.now d) (λ z. omega arith) in
     record { value = c.give_marked-2.ensures ∙ ap marked_of k.0; constants_after = k.1 }

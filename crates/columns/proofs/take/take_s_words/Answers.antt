@@ -11,25 +11,12 @@ use Rattle.columns.specs.declared.intake.Intake.{Intake}
 use Rattle.pieces.specs.SWords.{s_words_number, s_words_written}
 use Rattle.pieces.specs.FaultLaws.{words_room}
 use Rattle.columns.specs.IntakeLaws.{plan_fine, words_19, words_10, words_own, words_refused, words-taken}
-use Rattle.columns.proofs.take.take_s_words.Goals.{After-s_words_fault-fault, Else-fault-ne0, Start, Then-stands}
+use Rattle.columns.proofs.take.take_s_words.Goals.{After-s_words_fault-fault, Else-fault-ne0, Start}
 use Rattle.columns.proofs.take.take_s_words.Goals as goal
 
 -- the state in parts
 abbrev held : Start → Intake
 held c = intake_in c.args.outline c.args.gates.now c.args.nodes.now c.args.counts []
-
--- the state stands, so its plan is sound and its counts are within
-upright : (c : Then-stands) → stands (setting_of (held c).plan) (state_of (held c)) ≡ true
-upright c = sym (c.stands.ensures []) ∙ c.if-stands.taken
-
-no_fault : (c : Then-stands) → plan_fault (held c).plan ≡ 0
-no_fault c = plan_fine (held c.before.before.before.before.before.before) (upright c)
-
-fine : (c : Then-stands) → Sound (held c).plan
-fine c = sound (held c.before.before.before.before.before.before).plan (no_fault c)
-
-counts : (c : Then-stands) → Counted (setting_of (held c).plan) (state_of (held c))
-counts c = (stood (setting_of (held c.before.before.before.before.before.before).plan) (state_of (held c.before.before.before.before.before.before)) (upright c)).counts
 
 product : (a n b : ℕ) → a ≤ b → n ≤ 65536 → a * n ≤ b * 65536
 product a n b h k = mul-le-mul h k
@@ -48,27 +35,38 @@ ends c =
     words_room (a.outline.specialised * a.outline.trace) a.counts.s_words a.piece.now (counts c.before.before.before.before.before.before).words_in (sym c.s_words_fault-fault.ensures ∙ c.if-fault-ne0.left)
 
 pub rooms_of-requires : goal.rooms_of-requires
-rooms_of-requires c = let a = c.args in small a.outline a.gates.now a.nodes.now (no_fault c)
+rooms_of-requires c =
+    let upright : stands (setting_of (held c.before.before.before.before.before.before).plan) (state_of (held c.before.before.before.before.before.before)) ≡ true = sym (c.stands.ensures []) ∙ c.if-stands.taken in
+    let no_fault : plan_fault (held c.before.before.before.before.before.before).plan ≡ 0 = plan_fine (held c.before.before.before.before.before.before) (upright) in
+    let a = c.args in small a.outline a.gates.now a.nodes.now (no_fault)
 
 pub returns-then-constants-rooms_of : goal.returns-then-constants-rooms_of
 returns-then-constants-rooms_of c =
+    let upright : stands (setting_of (held c.before.before.before.before.before.before).plan) (state_of (held c.before.before.before.before.before.before)) ≡ true = sym (c.stands.ensures []) ∙ c.if-stands.taken in
     let s = held c.before.before.before.before.before.before.before.before.before.before in
     let a = c.args in
     let r = c.rooms_of.ensures a.gates.now a.nodes.now in
-    let k = words_refused s a.piece.now a.constants.now 10 (words_10 s a.piece.now a.constants.now (upright c.before.before.before.before) (omega (arith, c.if-constants-rooms_of.taken, r.constants_are))) (λ z. omega arith) in
+    let k = words_refused s a.piece.now a.constants.now 10 (words_10 s a.piece.now a.constants.now (upright) (omega (arith, c.if-constants-rooms_of.taken, r.constants_are))) (λ z. omega arith) in
     record { value = c.give.ensures ∙ ap given_of k.0; constants_after = k.1 }
 
 pub overflow_mul-total : goal.overflow_mul-total
 overflow_mul-total c =
+    let upright : stands (setting_of (held c.before.before.before.before.before.before).plan) (state_of (held c.before.before.before.before.before.before)) ≡ true = sym (c.stands.ensures []) ∙ c.if-stands.taken in
+    let no_fault : plan_fault (held c.before.before.before.before.before.before).plan ≡ 0 = plan_fine (held c.before.before.before.before.before.before) (upright) in
+    let fine : Sound (held c.before.before.before.before.before.before).plan = sound (held c.before.before.before.before.before.before).plan (no_fault) in
     let q = c.args.outline in
-    let w = fine c.before.before.before.before in
+    let w = fine in
     omega (arith, product q.specialised q.trace 16 w.special w.ranges.long)
 
 pub s_words_fault-fault-requires : goal.s_words_fault-fault-requires
 s_words_fault-fault-requires c =
+    let upright : stands (setting_of (held c.before.before.before.before.before.before).plan) (state_of (held c.before.before.before.before.before.before)) ≡ true = sym (c.stands.ensures []) ∙ c.if-stands.taken in
+    let no_fault : plan_fault (held c.before.before.before.before.before.before).plan ≡ 0 = plan_fine (held c.before.before.before.before.before.before) (upright) in
+    let fine : Sound (held c.before.before.before.before.before.before).plan = sound (held c.before.before.before.before.before.before).plan (no_fault) in
+    let counts : Counted (setting_of (held c.before.before.before.before.before.before).plan) (state_of (held c.before.before.before.before.before.before)) = (stood (setting_of (held c.before.before.before.before.before.before).plan) (state_of (held c.before.before.before.before.before.before)) (upright)).counts in
     let q = c.args.outline in
-    let w = fine c.before.before.before.before in
-    ((counts c.before.before.before.before).words_in, omega (arith, product q.specialised q.trace 16 w.special w.ranges.long))
+    let w = fine in
+    ((counts).words_in, omega (arith, product q.specialised q.trace 16 w.special w.ranges.long))
 
 pub returns-then-fault-ne0 : goal.returns-then-fault-ne0
 returns-then-fault-ne0 c =
@@ -78,14 +76,20 @@ returns-then-fault-ne0 c =
 
 pub overflow_mul-at : goal.overflow_mul-at
 overflow_mul-at c =
+    let upright : stands (setting_of (held c.before.before.before.before.before.before).plan) (state_of (held c.before.before.before.before.before.before)) ≡ true = sym (c.stands.ensures []) ∙ c.if-stands.taken in
+    let no_fault : plan_fault (held c.before.before.before.before.before.before).plan ≡ 0 = plan_fine (held c.before.before.before.before.before.before) (upright) in
+    let fine : Sound (held c.before.before.before.before.before.before).plan = sound (held c.before.before.before.before.before.before).plan (no_fault) in
     let q = c.args.outline in
-    let w = fine c.before.before.before.before.before.before.before in
+    let w = fine in
     omega (arith, product q.told.constants q.trace 47 w.height w.ranges.long)
 
 pub overflow_add-at : goal.overflow_add-at
 overflow_add-at c =
+    let upright : stands (setting_of (held c.before.before.before.before.before.before).plan) (state_of (held c.before.before.before.before.before.before)) ≡ true = sym (c.stands.ensures []) ∙ c.if-stands.taken in
+    let no_fault : plan_fault (held c.before.before.before.before.before.before).plan ≡ 0 = plan_fine (held c.before.before.before.before.before.before) (upright) in
+    let fine : Sound (held c.before.before.before.before.before.before).plan = sound (held c.before.before.before.before.before.before).plan (no_fault) in
     let q = c.args.outline in
-    let w = fine c.before.before.before.before.before.before.before.before in
+    let w = fine in
     omega (arith, product q.specialised q.trace 16 w.special w.ranges.long, product q.told.constants q.trace 47 w.height w.ranges.long, ends c.before.before)
 
 pub write_words-requires : goal.write_words-requires
@@ -95,8 +99,11 @@ write_words-requires c =
 
 pub overflow_add-counts : goal.overflow_add-counts
 overflow_add-counts c =
+    let upright : stands (setting_of (held c.before.before.before.before.before.before).plan) (state_of (held c.before.before.before.before.before.before)) ≡ true = sym (c.stands.ensures []) ∙ c.if-stands.taken in
+    let no_fault : plan_fault (held c.before.before.before.before.before.before).plan ≡ 0 = plan_fine (held c.before.before.before.before.before.before) (upright) in
+    let fine : Sound (held c.before.before.before.before.before.before).plan = sound (held c.before.before.before.before.before.before).plan (no_fault) in
     let q = c.args.outline in
-    let w = fine c.before.before.before.before.before.before.before.before.before.before.before.before.before in
+    let w = fine in
     omega (arith, product q.specialised q.trace 16 w.special w.ranges.long, ends c.before.before.before.before.before.before.before)
 
 pub returns-then-stands : goal.returns-then-stands

@@ -16,25 +16,12 @@ use Rattle.pieces.specs.FaultLaws.{no_tables}
 use Rattle.pieces.specs.LineLaws.{tables_done, sum_done}
 use Rattle.columns.specs.declared.intake.Taken.{Taken}
 use Rattle.columns.specs.IntakeLaws.{plan_fine, tables_19, tables_10, tables_own, tables_refused, tables-taken}
-use Rattle.columns.proofs.take.take_tables.Goals.{After-tables_fault-fault, Start, Then-looked, Then-stands}
+use Rattle.columns.proofs.take.take_tables.Goals.{After-tables_fault-fault, Start}
 use Rattle.columns.proofs.take.take_tables.Goals as goal
 
 -- the state in parts
 abbrev held : Start → Intake
 held c = intake_in c.args.outline c.args.gates.now c.args.nodes.now c.args.counts []
-
--- the state stands, so its plan is sound and its counts are within
-upright : (c : Then-stands) → stands (setting_of (held c).plan) (state_of (held c)) ≡ true
-upright c = sym (c.stands.ensures []) ∙ c.if-stands.taken
-
-no_fault : (c : Then-stands) → plan_fault (held c).plan ≡ 0
-no_fault c = plan_fine (held c.before.before.before.before.before.before) (upright c)
-
-fine : (c : Then-stands) → Sound (held c).plan
-fine c = sound (held c.before.before.before.before.before.before).plan (no_fault c)
-
-counts : (c : Then-stands) → Counted (setting_of (held c).plan) (state_of (held c))
-counts c = (stood (setting_of (held c.before.before.before.before.before.before).plan) (state_of (held c.before.before.before.before.before.before)) (upright c)).counts
 
 -- the piece's number is its first faulty record's
 fault-is : (c : After-tables_fault-fault) → let a = c.args in
@@ -46,10 +33,6 @@ own c =
     let a = c.args in
     let r = c.rooms_of.ensures a.gates.now a.nodes.now in
     tables_own (held c.before.before.before.before.before.before.before.before.before.before.before.before) a.piece.now a.tables.now (upright c.before.before.before.before.before.before) (omega (arith, c.if-tables-rooms_of.left, r.tables_are)) ∙ sym (fault-is c)
-
--- in a lookup mode the buffer has W + 1 columns, and the piece has no fault
-looked : (c : Then-looked) → ltb 0 (mode_of c.args.outline.lookup) ≡ true
-looked c = rw c.mode-looked.ensures at c.if-looked.taken
 
 wide : (t : Bool) (n len : ℕ) → t ≡ true → pick t n 0 ≤ len → n ≤ len
 wide t n len e h = rw e at h
@@ -66,20 +49,28 @@ unfolding tables_written
 nothing_written s ws b e = rw e (tables_done (width_of s.plan.lookup) s.plan.trace s.counts.tables s.counts.table_rows b)
 
 pub rooms_of-requires : goal.rooms_of-requires
-rooms_of-requires c = let a = c.args in small a.outline a.gates.now a.nodes.now (no_fault c)
+rooms_of-requires c =
+    let upright : stands (setting_of (held c.before.before.before.before.before.before).plan) (state_of (held c.before.before.before.before.before.before)) ≡ true = sym (c.stands.ensures []) ∙ c.if-stands.taken in
+    let no_fault : plan_fault (held c.before.before.before.before.before.before).plan ≡ 0 = plan_fine (held c.before.before.before.before.before.before) (upright) in
+    let a = c.args in small a.outline a.gates.now a.nodes.now (no_fault)
 
 pub returns-then-tables-rooms_of : goal.returns-then-tables-rooms_of
 returns-then-tables-rooms_of c =
+    let upright : stands (setting_of (held c.before.before.before.before.before.before).plan) (state_of (held c.before.before.before.before.before.before)) ≡ true = sym (c.stands.ensures []) ∙ c.if-stands.taken in
     let s = held c.before.before.before.before.before.before.before.before.before.before in
     let a = c.args in
     let r = c.rooms_of.ensures a.gates.now a.nodes.now in
-    let k = tables_refused s a.piece.now a.tables.now 10 (tables_10 s a.piece.now a.tables.now (upright c.before.before.before.before) (omega (arith, c.if-tables-rooms_of.taken, r.tables_are))) (λ z. omega arith) in
+    let k = tables_refused s a.piece.now a.tables.now 10 (tables_10 s a.piece.now a.tables.now (upright) (omega (arith, c.if-tables-rooms_of.taken, r.tables_are))) (λ z. omega arith) in
     record { value = c.give.ensures ∙ ap given_of k.0; tables_after = k.1 }
 
 pub tables_fault-fault-requires : goal.tables_fault-fault-requires
 tables_fault-fault-requires c =
-    let w = fine c.before.before.before.before.before in
-    let t = counts c.before.before.before.before.before in
+    let upright : stands (setting_of (held c.before.before.before.before.before.before).plan) (state_of (held c.before.before.before.before.before.before)) ≡ true = sym (c.stands.ensures []) ∙ c.if-stands.taken in
+    let no_fault : plan_fault (held c.before.before.before.before.before.before).plan ≡ 0 = plan_fine (held c.before.before.before.before.before.before) (upright) in
+    let fine : Sound (held c.before.before.before.before.before.before).plan = sound (held c.before.before.before.before.before.before).plan (no_fault) in
+    let counts : Counted (setting_of (held c.before.before.before.before.before.before).plan) (state_of (held c.before.before.before.before.before.before)) = (stood (setting_of (held c.before.before.before.before.before.before).plan) (state_of (held c.before.before.before.before.before.before)) (upright)).counts in
+    let w = fine in
+    let t = counts in
     (omega (arith, w.width, c.lookup_width-width.ensures), t.tables_in, t.stack_in, w.ranges.long)
 
 pub returns-then-fault-ne0 : goal.returns-then-fault-ne0
@@ -90,15 +81,20 @@ returns-then-fault-ne0 c =
 
 pub write_tables-stack-requires : goal.write_tables-stack-requires
 write_tables-stack-requires c =
+    let upright : stands (setting_of (held c.before.before.before.before.before.before).plan) (state_of (held c.before.before.before.before.before.before)) ≡ true = sym (c.stands.ensures []) ∙ c.if-stands.taken in
+    let no_fault : plan_fault (held c.before.before.before.before.before.before).plan ≡ 0 = plan_fine (held c.before.before.before.before.before.before) (upright) in
+    let fine : Sound (held c.before.before.before.before.before.before).plan = sound (held c.before.before.before.before.before.before).plan (no_fault) in
+    let counts : Counted (setting_of (held c.before.before.before.before.before.before).plan) (state_of (held c.before.before.before.before.before.before)) = (stood (setting_of (held c.before.before.before.before.before.before).plan) (state_of (held c.before.before.before.before.before.before)) (upright)).counts in
+    let looked : ltb 0 (mode_of c.args.outline.lookup) ≡ true = rw c.mode-looked.ensures at c.if-looked.taken in
     let s = held c.before.before.before.before.before.before.before.before.before.before.before.before.before.before.before in
     let a = c.args in
     let q = a.outline in
-    let w = fine c.before.before.before.before.before.before.before.before.before in
-    let t = counts c.before.before.before.before.before.before.before.before.before in
+    let w = fine in
+    let t = counts in
     let e = c.lookup_width-width.ensures in
     let n : table_room (setting_of s.plan) ≤ length a.tables.now = omega (arith, c.if-tables-rooms_of.left, (c.rooms_of.ensures a.gates.now a.nodes.now).tables_are) in
-    let room = wide (ltb 0 (mode_of q.lookup)) ((width_of q.lookup + 1) * q.trace) (length a.tables.now) (looked c.before) n in
-    let f : tables_fault true (width_of q.lookup) q.trace (stack_of (state_of s)) (tables_of a.piece.now) ≡ 0 = rw (looked c.before) at (sym (fault-is c.before.before.before) ∙ c.if-fault-ne0.left) in
+    let room = wide (ltb 0 (mode_of q.lookup)) ((width_of q.lookup + 1) * q.trace) (length a.tables.now) (looked) n in
+    let f : tables_fault true (width_of q.lookup) q.trace (stack_of (state_of s)) (tables_of a.piece.now) ≡ 0 = rw (looked) at (sym (fault-is c.before.before.before) ∙ c.if-fault-ne0.left) in
     rw e record { width_bound = (w.width, w.ranges.long, t.tables_in, t.stack_in, room); piece_value = f }
 
 pub returns-then-looked : goal.returns-then-looked
@@ -108,7 +104,7 @@ returns-then-looked c =
     let k = tables-taken (held c.before.before.before.before.before.before.before.before.before.before.before.before.before.before.before.before.before.before.before) a.piece.now a.tables.now (own c.before.before.before.before.before.before.before ∙ c.if-fault-ne0.left) in
     let w = c.write_tables-stack.ensures in
     let e = c.lookup_width-width.ensures in
-    record { value = c.give-then-looked.ensures ∙ rw (w.0.0, w.0.1) (ap given_of k.0); tables_after = (rw e at w.1) ∙ k.1 }
+    record { value = c.give-then-looked.ensures ∙ rw (w.count_value.0, w.count_value.1) (ap given_of k.0); tables_after = (rw e at w.tables_after) ∙ k.1 }
 
 pub returns-then-stands : goal.returns-then-stands
 returns-then-stands c =

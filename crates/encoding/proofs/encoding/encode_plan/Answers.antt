@@ -6,27 +6,23 @@ use Rattle.selector.specs.Nodes.{node_slots}
 use Rattle.encoding.specs.Encoding.{count_at, plan_words}
 use Rattle.writer.specs.HandLaws.{handed_short}
 use Rattle.encoding.specs.EncodingLaws.{plan-length, plan-written}
-use Rattle.encoding.proofs.encoding.encode_plan.Goals.{Start}
 use Rattle.encoding.proofs.encoding.encode_plan.Goals as goal
-
--- the arrays of a plan by value have their lengths
-gates-long : (c : Start) → length c.args.plan.gates ≡ gate_slots
-gates-long c = search rules
-
-nodes-long : (c : Start) → length c.args.plan.nodes ≡ node_slots
-nodes-long c = search rules
 
 pub returns-then-words-lt-PLAN_WORDS : goal.returns-then-words-lt-PLAN_WORDS
 returns-then-words-lt-PLAN_WORDS c =
+    let gates-long : length c.args.plan.gates ≡ gate_slots = search rules in
+    let nodes-long : length c.args.plan.nodes ≡ node_slots = search rules in
     let a = c.args in
-    handed_short (plan_words a.plan) a.words.now (omega (arith, plan-length a.plan (gates-long c.before.before) (nodes-long c.before.before), c.if-words-lt-PLAN_WORDS.true))
+    handed_short (plan_words a.plan) a.words.now (omega (arith, plan-length a.plan (gates-long) (nodes-long), c.if-words-lt-PLAN_WORDS.true))
 
 pub shape_of-words : goal.shape_of-words
 shape_of-words c = c.put_words-4.auto.out ∙ c.put_words-3.auto.out ∙ length-set c.put_words-2.new.out count_at c.args.plan.gate_count ∙ c.put_words-2.auto.out ∙ c.put_words.auto.out
 
 pub returns : goal.returns
 returns c =
+    let gates-long : length c.args.plan.gates ≡ gate_slots = search rules in
+    let nodes-long : length c.args.plan.nodes ≡ node_slots = search rules in
     let a = c.args in
-    plan-written a.plan a.words.now (gates-long c.before.before.before.before.before.before.before.before.before.before.before.before.before.before.before.before.before.before.before.before.before.before.before.before.before.before.before.before) (nodes-long c.before.before.before.before.before.before.before.before.before.before.before.before.before.before.before.before.before.before.before.before.before.before.before.before.before.before.before.before) c.if-words-lt-PLAN_WORDS.false
+    plan-written a.plan a.words.now (gates-long) (nodes-long) c.if-words-lt-PLAN_WORDS.false
     _ _ _ c.mode.ensures c.lookup_width.ensures (c.flag_of.ensures ∙ ap flag_of c.share_table_id.ensures)
     _ _ _ _ c.put_words.ensures c.put_words-2.ensures c.put_words-3.ensures c.put_words-4.ensures

@@ -8,13 +8,13 @@ use Rattle.labels.proofs.NonResidues.try_candidate.Goals as goal
 
 pub slice_bounds-powers-end : goal.slice_bounds-powers-end
 slice_bounds-powers-end c =
-    let l : length c.args.t1.powers ≡ most_columns = search rules in
+    let l : length c.args.self.powers ≡ most_columns = search rules in
     omega (arith, c.requires.0)
 
 pub slice_bounds-is_absent-end : goal.slice_bounds-is_absent-end
 slice_bounds-is_absent-end c =
-    let l : length c.args.t1.powers ≡ most_columns = search rules in
-    sym (length-take-le c.args.t1.kept c.args.t1.powers (omega (arith, c.requires.0)))
+    let l : length c.args.self.powers ≡ most_columns = search rules in
+    sym (length-take-le c.args.self.kept c.args.self.powers (omega (arith, c.requires.0)))
 
 pub returns-then-is_absent : goal.returns-then-is_absent
 returns-then-is_absent c =
@@ -22,9 +22,9 @@ returns-then-is_absent c =
     let power : c.pow-power.result ≡ fpow a.candidate a.n = c.pow-power.ensures in
     let test : is_non_residue a.candidate ≡ true = sym c.is_non_residue.ensures ∙ c.if-is_non_residue.true in
     λ s t e b.
-    held_next a.t1 s t a.candidate c.pow-power.result e b c.requires.0
+    held_next a.self s t a.candidate c.pow-power.result e b c.requires.0
     ∙ rw (power, test) (ap (λ (x : Columns). stored x (t + 1)) (sym (tried-kept is_non_residue (λ k. fpow k a.n) a.candidate s test
-    (ap (absent (fpow a.candidate a.n)) (sym (held_powers a.t1 s t e b)) ∙ rw (← power) (sym c.is_absent.ensures ∙ c.if-is_absent.true)))))
+    (ap (absent (fpow a.candidate a.n)) (sym (held_powers a.self s t e b)) ∙ rw (← power) (sym c.is_absent.ensures ∙ c.if-is_absent.true)))))
 
 pub returns-else-is_absent : goal.returns-else-is_absent
 returns-else-is_absent c =
@@ -32,9 +32,9 @@ returns-else-is_absent c =
     let power : c.pow-power.result ≡ fpow a.candidate a.n = c.pow-power.ensures in
     let test : is_non_residue a.candidate ≡ true = sym c.is_non_residue.ensures ∙ c.if-is_non_residue.true in
     λ s t e b.
-    held-taken a.t1 s t e
+    held-taken a.self s t e
     ∙ rw test (ap (λ (x : Columns). stored x (t + 1)) (sym (tried_coset is_non_residue (λ k. fpow k a.n) a.candidate s test
-    (ap (absent (fpow a.candidate a.n)) (sym (held_powers a.t1 s t e b)) ∙ rw (← power) (sym c.is_absent.ensures ∙ c.if-is_absent.false)))))
+    (ap (absent (fpow a.candidate a.n)) (sym (held_powers a.self s t e b)) ∙ rw (← power) (sym c.is_absent.ensures ∙ c.if-is_absent.false)))))
 
 pub returns-else-is_non_residue : goal.returns-else-is_non_residue
 returns-else-is_non_residue c =

@@ -3,12 +3,7 @@ use Rattle.std.proofs.Common.{◌≡◌, sym, subst, arith, ℕ, ◌+◌, ◌-�
 use Rattle.pieces.specs.Records.{table_size}
 use Rattle.pieces.specs.RecordLaws.{Uncut}
 use Rattle.padding.specs.Sums.{Summing, summing_begin, summing_here, summing_next, summing_passed, summing_done}
-use Rattle.padding.proofs.judging.table_rows.Goals.{In-loop-i}
 use Rattle.padding.proofs.judging.table_rows.Goals as goal
-
--- the table at the front is whole
-here : (c : In-loop-i) → Uncut table_size c.args.tables.now c.loop-i.i
-here c = let l = c.loop-i in summing_here c.args.tables.now l.sum l.i l.invariant.1 (omega (arith, c.loop-i-test))
 
 end : (ws : List ℕ) (i : ℕ) → Uncut table_size ws i → i + 2 + get_or ws i 0 * get_or ws (i + 1) 0 ≤ length ws
 end ws i u = omega (arith, u.two, u.fits)
@@ -17,22 +12,29 @@ pub loop-i-init : goal.loop-i-init
 loop-i-init c = (omega arith, summing_begin c.args.tables.now c.requires)
 
 pub overflow_add-n : goal.overflow_add-n
-overflow_add-n c = omega (arith, (here c).two)
+overflow_add-n c =
+    let here : Uncut table_size c.args.tables.now c.loop-i.i = let l = c.loop-i in summing_here c.args.tables.now l.sum l.i l.invariant.1 (omega (arith, c.loop-i-test)) in
+    omega (arith, (here).two)
 
 pub offset_bounds-tables-i : goal.offset_bounds-tables-i
-offset_bounds-tables-i c = omega (arith, (here c).two)
+offset_bounds-tables-i c =
+    let here : Uncut table_size c.args.tables.now c.loop-i.i = let l = c.loop-i in summing_here c.args.tables.now l.sum l.i l.invariant.1 (omega (arith, c.loop-i-test)) in
+    omega (arith, (here).two)
 
 pub bounds-tables-i : goal.bounds-tables-i
-bounds-tables-i c = omega (arith, (here c.before).two)
+bounds-tables-i c =
+    let here : Uncut table_size c.args.tables.now c.loop-i.i = let l = c.loop-i in summing_here c.args.tables.now l.sum l.i l.invariant.1 (omega (arith, c.loop-i-test)) in
+    omega (arith, (here).two)
 
 pub overflow_sub-sum : goal.overflow_sub-sum
 overflow_sub-sum c = omega (arith, c.loop-i.invariant.0)
 
 pub returns-then-sum-n : goal.returns-then-sum-n
 returns-then-sum-n c =
+    let here : Uncut table_size c.args.tables.now c.loop-i.i = let l = c.loop-i in summing_here c.args.tables.now l.sum l.i l.invariant.1 (omega (arith, c.loop-i-test)) in
     let l = c.loop-i in
     let ws = c.args.tables.now in
-    let p = summing_passed ws l.sum l.i l.invariant.1 (here c.before.before) in
+    let p = summing_passed ws l.sum l.i l.invariant.1 (here) in
     let t = c.if-sum-n.true in
     record { same = λ h. absurd (omega (arith, h, p, t, l.invariant.0)); above = λ h. omega arith; small = omega arith }
 
@@ -40,29 +42,42 @@ pub overflow_add-sum : goal.overflow_add-sum
 overflow_add-sum c = omega (arith, c.loop-i.invariant.0, c.if-sum-n.false)
 
 pub offset_bounds-tables-i-in-loop-i : goal.offset_bounds-tables-i-in-loop-i
-offset_bounds-tables-i-in-loop-i c = omega (arith, (here c.before.before).two)
+offset_bounds-tables-i-in-loop-i c =
+    let here : Uncut table_size c.args.tables.now c.loop-i.i = let l = c.loop-i in summing_here c.args.tables.now l.sum l.i l.invariant.1 (omega (arith, c.loop-i-test)) in
+    omega (arith, (here).two)
 
 pub bounds-tables-i-in-loop-i : goal.bounds-tables-i-in-loop-i
-bounds-tables-i-in-loop-i c = omega (arith, (here c.before.before.before).two)
+bounds-tables-i-in-loop-i c =
+    let here : Uncut table_size c.args.tables.now c.loop-i.i = let l = c.loop-i in summing_here c.args.tables.now l.sum l.i l.invariant.1 (omega (arith, c.loop-i-test)) in
+    omega (arith, (here).two)
 
 pub overflow_mul-i : goal.overflow_mul-i
-overflow_mul-i c = omega (arith, end c.args.tables.now c.loop-i.i (here c.before.before.before))
+overflow_mul-i c =
+    let here : Uncut table_size c.args.tables.now c.loop-i.i = let l = c.loop-i in summing_here c.args.tables.now l.sum l.i l.invariant.1 (omega (arith, c.loop-i-test)) in
+    omega (arith, end c.args.tables.now c.loop-i.i (here))
 
 pub overflow_add-i : goal.overflow_add-i
-overflow_add-i c = omega (arith, end c.args.tables.now c.loop-i.i (here c.before.before.before))
+overflow_add-i c =
+    let here : Uncut table_size c.args.tables.now c.loop-i.i = let l = c.loop-i in summing_here c.args.tables.now l.sum l.i l.invariant.1 (omega (arith, c.loop-i-test)) in
+    omega (arith, end c.args.tables.now c.loop-i.i (here))
 
 pub overflow_add-i-in-loop-i : goal.overflow_add-i-in-loop-i
-overflow_add-i-in-loop-i c = omega (arith, end c.args.tables.now c.loop-i.i (here c.before.before.before))
+overflow_add-i-in-loop-i c =
+    let here : Uncut table_size c.args.tables.now c.loop-i.i = let l = c.loop-i in summing_here c.args.tables.now l.sum l.i l.invariant.1 (omega (arith, c.loop-i-test)) in
+    omega (arith, end c.args.tables.now c.loop-i.i (here))
 
 pub loop-i-smaller : goal.loop-i-smaller
-loop-i-smaller c = omega (arith, c.loop-i-test, end c.args.tables.now c.loop-i.i (here c.before.before.before))
+loop-i-smaller c =
+    let here : Uncut table_size c.args.tables.now c.loop-i.i = let l = c.loop-i in summing_here c.args.tables.now l.sum l.i l.invariant.1 (omega (arith, c.loop-i-test)) in
+    omega (arith, c.loop-i-test, end c.args.tables.now c.loop-i.i (here))
 
 pub loop-i-preserved : goal.loop-i-preserved
 loop-i-preserved c =
+    let here : Uncut table_size c.args.tables.now c.loop-i.i = let l = c.loop-i in summing_here c.args.tables.now l.sum l.i l.invariant.1 (omega (arith, c.loop-i-test)) in
     let l = c.loop-i in
     let ws = c.args.tables.now in
     let j : l.i + 2 + get_or ws l.i 0 * get_or ws (l.i + 1) 0 ≡ l.i + (2 + get_or ws l.i 0 * get_or ws (l.i + 1) 0) = omega arith in
-    (omega (arith, l.invariant.0, c.if-sum-n.false), subst (λ (k : ℕ). Summing ws (l.sum + get_or ws (l.i + 1) 0) k) j (summing_next ws l.sum l.i l.invariant.1 (here c.before.before.before) (end ws l.i (here c.before.before.before))))
+    (omega (arith, l.invariant.0, c.if-sum-n.false), subst (λ (k : ℕ). Summing ws (l.sum + get_or ws (l.i + 1) 0) k) j (summing_next ws l.sum l.i l.invariant.1 (here) (end ws l.i (here))))
 
 pub returns : goal.returns
 returns c =

@@ -20,7 +20,7 @@ returns-in-Whole c =
     let g = c.listing-1.given in
     let r = read_whole ws g.0.0 (sym g.1 ∙ c.sections_of-listing.ensures) in
     let w = c.pad_parts.ensures in
-    record { value = w.0 ∙ ap (λ (x : Reading). pad_by x a.out.now) (sym r); out_after = w.1 ∙ ap (λ (x : Reading). pad_left_by x a.out.now) (sym r) }
+    record { value = w.value ∙ ap (λ (x : Reading). pad_by x a.out.now) (sym r); out_after = w.out_after ∙ ap (λ (x : Reading). pad_left_by x a.out.now) (sym r) }
 
 pub returns-in-Refused : goal.returns-in-Refused
 unfolding pad_answer pad_left

@@ -84,17 +84,8 @@ as_long s front r x d h = ap length d.1 ∙ put-length 0 front s.args.out.now (o
 abbrev start : After-put_parameters-at_gates → Start
 start c = c.before.before.before.before.before.before.before.before.before.before.before.before
 
-done-1 : (c : After-put_parameters-at_gates) → Done (start c) (F1 (start c)) c.put_parameters-at_gates.result c.put_parameters-at_gates.new.out
-done-1 c = let f = c.put_parameters-at_gates.ensures in (omega (arith, f.0, l1 (start c)), f.1)
-
 abbrev from_2 : After-put_counted-at_rows → After-put_parameters-at_gates
 from_2 c = c.before.before.before.before
-
-done-2 : (c : After-put_counted-at_rows) → Done (start (from_2 c)) (F2 (start (from_2 c))) c.put_counted-at_rows.result c.put_counted-at_rows.new.out
-done-2 c =
-    let s = start (from_2 c) in
-    let f = c.put_counted-at_rows.ensures in
-    next s (F1 s) (b2 s) _ _ _ _ (done-1 (from_2 c.before.before.before.before)) (omega (arith, f.0)) f.1 (omega (arith, s.pre.room, l1 s))
 
 abbrev from_3 : After-put_row_section-at_s_words → After-put_counted-at_rows
 from_3 c = c.before.before.before.before
@@ -132,14 +123,18 @@ put_parameters-at_gates-requires c = (c.requires.small.eight-words, omega (arith
 -- ---- the gates
 pub put_counted-at_rows-requires : goal.put_counted-at_rows-requires
 put_counted-at_rows-requires c =
+    let done-1 : Done (start c) (F1 (start c)) c.put_parameters-at_gates.result c.put_parameters-at_gates.new.out = let f = c.put_parameters-at_gates.ensures in (omega (arith, f.0, l1 (start c)), f.1) in
     let s = start c in
-    omega (arith, s.pre.room, l1 s, (done-1 c.before.before.before).0, as_long s (F1 s) _ _ (done-1 c.before.before.before) (omega (arith, s.pre.room, l1 s)))
+    omega (arith, s.pre.room, l1 s, (done-1).0, as_long s (F1 s) _ _ (done-1) (omega (arith, s.pre.room, l1 s)))
 
 -- ---- the rows
 pub put_row_section-at_s_words-requires : goal.put_row_section-at_s_words-requires
 put_row_section-at_s_words-requires c =
+    let done-2 : Done (start (from_2 c)) (F2 (start (from_2 c))) c.put_counted-at_rows.result c.put_counted-at_rows.new.out = let s = start (from_2 c) in
+    let f = c.put_counted-at_rows.ensures in
+    next s (F1 s) (b2 s) _ _ _ _ (done-1 (from_2 c.before.before.before.before.before.before.before)) (omega (arith, f.0)) f.1 (omega (arith, s.pre.room, l1 s)) in
     let s = start (from_2 c) in
-    omega (arith, s.pre.room, l2 s, (done-2 c.before.before.before).0, as_long s (F2 s) _ _ (done-2 c.before.before.before) (omega (arith, s.pre.room, l2 s)))
+    omega (arith, s.pre.room, l2 s, (done-2).0, as_long s (F2 s) _ _ (done-2) (omega (arith, s.pre.room, l2 s)))
 
 -- ---- the S words
 pub put_column_section-at_cells-requires : goal.put_column_section-at_cells-requires

@@ -4,16 +4,7 @@ use Rattle.writer.specs.Put.{put}
 use Rattle.writer.specs.PutLaws.{put-nothing, put-length}
 use Rattle.padding.specs.Padding.{fillers}
 use Rattle.padding.specs.PartsLaws.{fillers-long, rows_step}
-use Rattle.padding.proofs.parts.put_rows.Goals.{After-loop-i}
 use Rattle.padding.proofs.parts.put_rows.Goals as goal
-
--- all records
-done : (c : After-loop-i) → c.loop-i.out ≡ put c.args.at (fillers c.args.many c.args.gate) c.args.out.now
-done c =
-    let l = c.loop-i in
-    let a = c.args in
-    let e : l.i ≡ a.many = omega arith in
-    l.invariant.1 ∙ ap (λ (k : ℕ). put a.at (fillers k a.gate) a.out.now) e
 
 pub loop-i-init : goal.loop-i-init
 unfolding fillers
@@ -27,8 +18,17 @@ loop-i-preserved c =
 
 pub shape_of-out : goal.shape_of-out
 shape_of-out c =
+    let done : c.loop-i.out ≡ put c.args.at (fillers c.args.many c.args.gate) c.args.out.now = let l = c.loop-i in
     let a = c.args in
-    ap length (done c) ∙ put-length a.at (fillers a.many a.gate) a.out.now (omega (arith, fillers-long a.many a.gate))
+    let e : l.i ≡ a.many = omega arith in
+    l.invariant.1 ∙ ap (λ (k : ℕ). put a.at (fillers k a.gate) a.out.now) e in
+    let a = c.args in
+    ap length (done) ∙ put-length a.at (fillers a.many a.gate) a.out.now (omega (arith, fillers-long a.many a.gate))
 
 pub returns : goal.returns
-returns c = (refl, done c)
+returns c =
+    let done : c.loop-i.out ≡ put c.args.at (fillers c.args.many c.args.gate) c.args.out.now = let l = c.loop-i in
+    let a = c.args in
+    let e : l.i ≡ a.many = omega arith in
+    l.invariant.1 ∙ ap (λ (k : ℕ). put a.at (fillers k a.gate) a.out.now) e in
+    (refl, done)

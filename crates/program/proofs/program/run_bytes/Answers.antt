@@ -19,7 +19,7 @@ returns-then-room-many c =
     let a = c.args in
     let l = c.room-1.given.0 in
     let e = subst (λ (bytes : List ℕ). sink c.run_read.new.out c.run_read.result ≡ put (sink a.out.now 0) (program_text bytes)) (sym (take_all a.many a.input.now (omega (arith, l, c.if-room-many.true)))) c.run_read.ensures in
-    let both = told a.input.now a.out.now _ a.many _ (omega (arith, l)) (omega (arith, c.run_read-arg-1.given.0.1)) e in record { prefix_len = both.0; whole_in = both.1; by_index = both.2 }
+    let both = told a.input.now a.out.now _ a.many _ (omega (arith, l)) (omega (arith, c.run_read-arg-1.given.0.1)) e in record { prefix_len = both.0; whole_in = both.1.0; by_index = both.1.1 }
 
 pub slice_bounds-run_read-end-2 : goal.slice_bounds-run_read-end-2
 slice_bounds-run_read-end-2 c =
@@ -29,4 +29,4 @@ slice_bounds-run_read-end-2 c =
 pub returns : goal.returns
 returns c =
     let a = c.args in
-    let both = told a.input.now a.out.now _ a.many _ (omega (arith, c.room-1.given.0)) (omega (arith, c.run-read-arg3.given.0.1)) c.run_read-2.ensures in record { prefix_len = both.0; whole_in = both.1; by_index = both.2 }
+    let both = told a.input.now a.out.now _ a.many _ (omega (arith, c.room-1.given.0)) (omega (arith, c.run-read-arg3.given.0.1)) c.run_read-2.ensures in record { prefix_len = both.0; whole_in = both.1.0; by_index = both.1.1 }

@@ -3,21 +3,7 @@ use Rattle.std.proofs.Common.{suc-mul, ◌≡◌, refl, sym, ap, ◌∙◌, List
 use Rattle.report.specs.Report.{newline, column, column_lines}
 use Rattle.report.specs.ReportLaws.{part-column, columns_turn, columns_done}
 use Rattle.octets.specs.Text.{sink, put, field, fields}
-use Rattle.report.proofs.lines.put_columns.Goals.{In-loop-i}
 use Rattle.report.proofs.lines.put_columns.Goals as goal
-
--- the present column is in the buffer
-room : (c : In-loop-i) → (c.loop-i.from + c.args.trace ≤ length c.args.words.now) × (c.loop-i.from ≤ 4194304)
-room c =
-    let l = c.loop-i in
-    let a = c.args in
-    let p = c.requires in
-    let t : a.trace ≤ a.trace = omega arith in
-    let u : suc l.i ≤ a.many = omega (arith, c.loop-i-test.true) in
-    let v : l.i ≤ 64 = omega (arith, c.loop-i-test.true, p.1) in
-    let h : suc l.i * a.trace ≤ a.many * a.trace = mul-le-mul u t in
-    let k : l.i * a.trace ≤ 64 * 65536 = mul-le-mul v p.2 in
-    (omega (arith, h, p.0, l.invariant.0, suc-mul l.i a.trace), omega (arith, k, l.invariant.0))
 
 pub loop-i-init : goal.loop-i-init
 loop-i-init c =
@@ -26,16 +12,56 @@ loop-i-init c =
     (omega arith, refl, ap (λ (k : ℕ). put (sink a.out.now a.at) (column_lines a.name.now a.trace a.words.now 0 k)) e)
 
 pub overflow_add-end : goal.overflow_add-end
-overflow_add-end c = omega (arith, room c)
+overflow_add-end c =
+    let room : (c.loop-i.from + c.args.trace ≤ length c.args.words.now) × (c.loop-i.from ≤ 4194304) = let l = c.loop-i in
+    let a = c.args in
+    let p = c.requires in
+    let t : a.trace ≤ a.trace = omega arith in
+    let u : suc l.i ≤ a.many = omega (arith, c.loop-i-test.true) in
+    let v : l.i ≤ 64 = omega (arith, c.loop-i-test.true, p.1) in
+    let h : suc l.i * a.trace ≤ a.many * a.trace = mul-le-mul u t in
+    let k : l.i * a.trace ≤ 64 * 65536 = mul-le-mul v p.2 in
+    (omega (arith, h, p.0, l.invariant.0, suc-mul l.i a.trace), omega (arith, k, l.invariant.0)) in
+    omega (arith, room)
 
 pub offset_bounds-words-from : goal.offset_bounds-words-from
-offset_bounds-words-from c = omega (arith, room c)
+offset_bounds-words-from c =
+    let room : (c.loop-i.from + c.args.trace ≤ length c.args.words.now) × (c.loop-i.from ≤ 4194304) = let l = c.loop-i in
+    let a = c.args in
+    let p = c.requires in
+    let t : a.trace ≤ a.trace = omega arith in
+    let u : suc l.i ≤ a.many = omega (arith, c.loop-i-test.true) in
+    let v : l.i ≤ 64 = omega (arith, c.loop-i-test.true, p.1) in
+    let h : suc l.i * a.trace ≤ a.many * a.trace = mul-le-mul u t in
+    let k : l.i * a.trace ≤ 64 * 65536 = mul-le-mul v p.2 in
+    (omega (arith, h, p.0, l.invariant.0, suc-mul l.i a.trace), omega (arith, k, l.invariant.0)) in
+    omega (arith, room)
 
 pub slice_bounds-put_column-start : goal.slice_bounds-put_column-start
-slice_bounds-put_column-start c = omega (arith, room c)
+slice_bounds-put_column-start c =
+    let room : (c.loop-i.from + c.args.trace ≤ length c.args.words.now) × (c.loop-i.from ≤ 4194304) = let l = c.loop-i in
+    let a = c.args in
+    let p = c.requires in
+    let t : a.trace ≤ a.trace = omega arith in
+    let u : suc l.i ≤ a.many = omega (arith, c.loop-i-test.true) in
+    let v : l.i ≤ 64 = omega (arith, c.loop-i-test.true, p.1) in
+    let h : suc l.i * a.trace ≤ a.many * a.trace = mul-le-mul u t in
+    let k : l.i * a.trace ≤ 64 * 65536 = mul-le-mul v p.2 in
+    (omega (arith, h, p.0, l.invariant.0, suc-mul l.i a.trace), omega (arith, k, l.invariant.0)) in
+    omega (arith, room)
 
 pub slice_bounds-put_column-end : goal.slice_bounds-put_column-end
-slice_bounds-put_column-end c = omega (arith, room c)
+slice_bounds-put_column-end c =
+    let room : (c.loop-i.from + c.args.trace ≤ length c.args.words.now) × (c.loop-i.from ≤ 4194304) = let l = c.loop-i in
+    let a = c.args in
+    let p = c.requires in
+    let t : a.trace ≤ a.trace = omega arith in
+    let u : suc l.i ≤ a.many = omega (arith, c.loop-i-test.true) in
+    let v : l.i ≤ 64 = omega (arith, c.loop-i-test.true, p.1) in
+    let h : suc l.i * a.trace ≤ a.many * a.trace = mul-le-mul u t in
+    let k : l.i * a.trace ≤ 64 * 65536 = mul-le-mul v p.2 in
+    (omega (arith, h, p.0, l.invariant.0, suc-mul l.i a.trace), omega (arith, k, l.invariant.0)) in
+    omega (arith, room)
 
 pub loop-i-preserved : goal.loop-i-preserved
 loop-i-preserved c =

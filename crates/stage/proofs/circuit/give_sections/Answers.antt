@@ -7,45 +7,57 @@ use Rattle.columns.specs.Intake.{state_in, with_state}
 use Rattle.claim.specs.Chain.{Kept, next, chained}
 use Rattle.claim.specs.Keeping.{keeping}
 use Rattle.stage.specs.Steps.{step_rows, step_words, step_cells, step_tables, step_finishing}
-use Rattle.stage.proofs.circuit.give_sections.Goals.{Start}
 use Rattle.stage.proofs.circuit.give_sections.Goals as goal
 
--- a plan's arrays have all their words
-gates-long : (c : Start) → length c.args.plan.gates ≡ gate_slots
-gates-long c = search rules
-
-nodes-long : (c : Start) → length c.args.plan.nodes ≡ node_slots
-nodes-long c = search rules
-
 pub slice_bounds-take_rows-end : goal.slice_bounds-take_rows-end
-slice_bounds-take_rows-end c = sym (gates-long c.before.before.before.before.before.before.before.before.before.before.before.before)
+slice_bounds-take_rows-end c =
+    let gates-long : length c.args.plan.gates ≡ gate_slots = search rules in
+    sym (gates-long)
 
 pub slice_bounds-take_rows-end-2 : goal.slice_bounds-take_rows-end-2
-slice_bounds-take_rows-end-2 c = sym (nodes-long c.before.before.before.before.before.before.before.before.before.before.before.before.before)
+slice_bounds-take_rows-end-2 c =
+    let nodes-long : length c.args.plan.nodes ≡ node_slots = search rules in
+    sym (nodes-long)
 
 pub slice_bounds-take_s_words-end : goal.slice_bounds-take_s_words-end
-slice_bounds-take_s_words-end c = sym (gates-long c.before.before.before.before.before.before.before.before.before.before.before.before.before.before.before.before.before.before.before)
+slice_bounds-take_s_words-end c =
+    let gates-long : length c.args.plan.gates ≡ gate_slots = search rules in
+    sym (gates-long)
 
 pub slice_bounds-take_s_words-end-2 : goal.slice_bounds-take_s_words-end-2
-slice_bounds-take_s_words-end-2 c = sym (nodes-long c.before.before.before.before.before.before.before.before.before.before.before.before.before.before.before.before.before.before.before.before)
+slice_bounds-take_s_words-end-2 c =
+    let nodes-long : length c.args.plan.nodes ≡ node_slots = search rules in
+    sym (nodes-long)
 
 pub slice_bounds-take_cells-end : goal.slice_bounds-take_cells-end
-slice_bounds-take_cells-end c = sym (gates-long c.before.before.before.before.before.before.before.before.before.before.before.before.before.before.before.before.before.before.before.before.before.before.before.before.before.before)
+slice_bounds-take_cells-end c =
+    let gates-long : length c.args.plan.gates ≡ gate_slots = search rules in
+    sym (gates-long)
 
 pub slice_bounds-take_cells-end-2 : goal.slice_bounds-take_cells-end-2
-slice_bounds-take_cells-end-2 c = sym (nodes-long c.before.before.before.before.before.before.before.before.before.before.before.before.before.before.before.before.before.before.before.before.before.before.before.before.before.before.before)
+slice_bounds-take_cells-end-2 c =
+    let nodes-long : length c.args.plan.nodes ≡ node_slots = search rules in
+    sym (nodes-long)
 
 pub slice_bounds-take_tables-end : goal.slice_bounds-take_tables-end
-slice_bounds-take_tables-end c = sym (gates-long c.before.before.before.before.before.before.before.before.before.before.before.before.before.before.before.before.before.before.before.before.before.before.before.before.before.before.before.before.before.before.before.before.before.before.before.before)
+slice_bounds-take_tables-end c =
+    let gates-long : length c.args.plan.gates ≡ gate_slots = search rules in
+    sym (gates-long)
 
 pub slice_bounds-take_tables-end-2 : goal.slice_bounds-take_tables-end-2
-slice_bounds-take_tables-end-2 c = sym (nodes-long c.before.before.before.before.before.before.before.before.before.before.before.before.before.before.before.before.before.before.before.before.before.before.before.before.before.before.before.before.before.before.before.before.before.before.before.before.before)
+slice_bounds-take_tables-end-2 c =
+    let nodes-long : length c.args.plan.nodes ≡ node_slots = search rules in
+    sym (nodes-long)
 
 pub slice_bounds-take_finish-end : goal.slice_bounds-take_finish-end
-slice_bounds-take_finish-end c = sym (gates-long c.before.before.before.before.before.before.before.before.before.before.before.before.before.before.before.before.before.before.before.before.before.before.before.before.before.before.before.before.before.before.before.before.before.before.before.before.before.before.before.before.before.before.before)
+slice_bounds-take_finish-end c =
+    let gates-long : length c.args.plan.gates ≡ gate_slots = search rules in
+    sym (gates-long)
 
 pub slice_bounds-take_finish-end-2 : goal.slice_bounds-take_finish-end-2
-slice_bounds-take_finish-end-2 c = sym (nodes-long c.before.before.before.before.before.before.before.before.before.before.before.before.before.before.before.before.before.before.before.before.before.before.before.before.before.before.before.before.before.before.before.before.before.before.before.before.before.before.before.before.before.before.before.before)
+slice_bounds-take_finish-end-2 c =
+    let nodes-long : length c.args.plan.nodes ≡ node_slots = search rules in
+    sym (nodes-long)
 
 pub shape_of-constants : goal.shape_of-constants
 shape_of-constants c = c.take_s_words-told.auto.constants ∙ c.take_rows-told.auto.constants

@@ -14,7 +14,7 @@ returns-in-Whole c =
     let g = c.listing-1.given in
     let w = c.run_parts.ensures in
     let k = listed_whole ws b (words_at ws g.0.0) (read_whole ws g.0.0 (sym g.1 ∙ c.sections_of-listing.ensures)) in
-    record { value = w.0 ∙ k.0; tables_after = w.1 ∙ k.1 }
+    record { value = w.value ∙ k.0; tables_after = w.tables_after ∙ k.1 }
 
 pub returns-in-Refused : goal.returns-in-Refused
 returns-in-Refused c =

@@ -20,4 +20,4 @@ returns c =
     c.part_of-5.ensures
     c.part_of-6.ensures
     in
-    record { value = w.0 ∙ k.0; tables_after = w.1 ∙ k.1 }
+    record { value = w.value ∙ k.0; tables_after = w.tables_after ∙ k.1 }

@@ -22,7 +22,7 @@ returns-then-count-gt-MOST_NODES c =
 pub visit-fine-requires : goal.visit-fine-requires
 visit-fine-requires c =
     let a = c.args in
-    (c.requires.sound, (links a.nodes.now a.count (sym c.linked.ensures ∙ c.if-linked.true), (omega (arith, c.if-count-eq0.false), c.if-count-gt-MOST_NODES.false, omega arith, refl, c.requires.node_slots_in_bounds)))
+    record { sound = c.requires.sound; links = links a.nodes.now a.count (sym c.linked.ensures ∙ c.if-linked.true); at_lt_count = (omega (arith, c.if-count-eq0.false), c.if-count-gt-MOST_NODES.false, omega arith, refl, c.requires.node_slots_in_bounds) }
 
 pub numbers_fit-requires : goal.numbers_fit-requires
 numbers_fit-requires c = omega (arith, c.visit-fine.ensures.most.small)

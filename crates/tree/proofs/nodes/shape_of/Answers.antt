@@ -17,7 +17,7 @@ lay-done-requires c =
     let r = c.compute_placement-count in
     let q = plan_tree a.extra a.gates.now a.many in
     let w = found a.many q r.new.1.0 r.result r.ensures.0 c.if-count-eq0.false in
-    (c.requires, (found_room a.many q _ _ w, omega arith))
+    record { sound = c.requires; room = found_room a.many q _ _ w; levels_bound = omega arith }
 
 pub factor_of-factor-requires : goal.factor_of-factor-requires
 factor_of-factor-requires c =

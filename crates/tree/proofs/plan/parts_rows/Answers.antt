@@ -10,16 +10,12 @@ use Rattle.tree.specs.Plan.{for_listed, gate_rows_answer, plan_barred, plan_bloc
 use Rattle.tree.specs.PlanLaws.{fault_none}
 use Rattle.tree.specs.Selection.{selection_bits, selection_length}
 use Rattle.tree.specs.declared.plan.Plan.{Plan}
-use Rattle.tree.proofs.plan.parts_rows.Goals.{After-all_placements, After-blocked_by-blocked, Else-parts_fault-ne0, Start}
+use Rattle.tree.proofs.plan.parts_rows.Goals.{After-all_placements, Start}
 use Rattle.tree.proofs.plan.parts_rows.Goals as goal
 
 -- the plan that the parts are
 abbrev plan : Start → Plan
 plan c = plan_in c.args.outline c.args.gates.now c.args.nodes.now
-
--- the plan has no fault
-fine : (c : Else-parts_fault-ne0) → plan_fault (plan c) ≡ 0
-fine c = sym c.parts_fault.ensures ∙ c.if-parts_fault-ne0.false
 
 -- the walk wrote the words of all paths
 walked : (c : After-all_placements) → let s = plan c in
@@ -30,12 +26,6 @@ walked c =
     let v = c.all_placements in
     paths-placed s (path_words v.new.1.1.1.1.1.1.1.0 v.new.1.1.1.1.1.1.1.1.0) (fine c.before.before.before) v.ensures
 
--- and by them the all-0 path is a kind 1 gate's or not
-blocked-is : (c : After-blocked_by-blocked) → c.blocked_by-blocked.result ≡ pick (plan_blocked (plan c)) 1 0
-blocked-is c =
-    let s = plan c.before.before.before.before.before.before.before.before.before in
-    blocked-given s c.blocked_by-blocked.result _ (fine c.before.before.before.before.before) (walked c.before.before).0 c.blocked_by-blocked.ensures
-
 pub returns-then-parts_fault-ne0 : goal.returns-then-parts_fault-ne0
 unfolding gate_rows_answer
 returns-then-parts_fault-ne0 c =
@@ -44,19 +34,24 @@ returns-then-parts_fault-ne0 c =
 
 pub all_placements-requires : goal.all_placements-requires
 all_placements-requires c =
-    let w = fault_none (plan c.before.before.before.before.before.before) (fine c.before.before) in
+    let fine : plan_fault (plan c.before.before.before.before) ≡ 0 = sym c.parts_fault.ensures ∙ c.if-parts_fault-ne0.false in
+    let w = fault_none (plan c.before.before.before.before.before.before) (fine) in
     record { links = w.nodes.linked; at_lt_count = (w.nodes.some_nodes, w.nodes.few, omega arith, omega arith, omega arith, w.node-words) }
 
 pub blocked_by-blocked-requires : goal.blocked_by-blocked-requires
 blocked_by-blocked-requires c =
-    let w = fault_none (plan c.before.before.before.before.before.before.before.before) (fine c.before.before.before.before) in
+    let fine : plan_fault (plan c.before.before.before.before) ≡ 0 = sym c.parts_fault.ensures ∙ c.if-parts_fault-ne0.false in
+    let w = fault_none (plan c.before.before.before.before.before.before.before.before) (fine) in
     (w.words, w.few_gates)
 
 pub list_gates-requires : goal.list_gates-requires
 list_gates-requires c =
+    let fine : plan_fault (plan c.before.before.before.before) ≡ 0 = sym c.parts_fault.ensures ∙ c.if-parts_fault-ne0.false in
+    let blocked-is : c.blocked_by-blocked.result ≡ pick (plan_blocked (plan c.before.before.before.before.before.before.before.before.before)) 1 0 = let s = plan c.before.before.before.before.before.before.before.before.before in
+    blocked-given s c.blocked_by-blocked.result _ (fine) (walked c.before.before.before.before.before.before).0 c.blocked_by-blocked.ensures in
     let s = plan c.before.before.before.before.before.before.before.before.before.before.before.before.before in
-    let w = fault_none s (fine c.before.before.before.before.before.before.before.before.before) in
-    (w.words, w.few_gates, few c.blocked_by-blocked.result (plan_blocked s) (blocked-is c.before.before.before.before), refl, refl)
+    let w = fault_none s (fine) in
+    (w.words, w.few_gates, few c.blocked_by-blocked.result (plan_blocked s) (blocked-is), refl, refl)
   where
     few : (b : ℕ) (t : Bool) → b ≡ pick t 1 0 → b ≤ 1
     few b true e = omega (arith, e)
@@ -65,12 +60,15 @@ list_gates-requires c =
 pub returns : goal.returns
 unfolding gate_rows_answer
 returns c =
+    let fine : plan_fault (plan c.before.before.before.before) ≡ 0 = sym c.parts_fault.ensures ∙ c.if-parts_fault-ne0.false in
+    let blocked-is : c.blocked_by-blocked.result ≡ pick (plan_blocked (plan c.before.before.before.before.before.before.before.before.before)) 1 0 = let s = plan c.before.before.before.before.before.before.before.before.before in
+    blocked-given s c.blocked_by-blocked.result _ (fine) (walked c.before.before.before.before.before.before.before).0 c.blocked_by-blocked.ensures in
     let s = plan c.before.before.before.before.before.before.before.before.before.before.before.before.before.before in
     let n = s.gate_count in
-    let f = fine c.before.before.before.before.before.before.before.before.before.before in
+    let f = fine in
     let p = walked c.before.before.before.before.before.before.before in
     let l = c.list_gates in
-    let b = blocked-is c.before.before.before.before.before in
+    let b = blocked-is in
     let x = c.extra_of-extra.ensures ∙ ap extra_of c.mode.ensures in
     let barred = listed_filled s (λ (g : ℕ). pick (plan_barred s g) 1 0) _ l.new.1.1.1.1.0 (barred-given s _ b) l.ensures.0 in
     let own = listed_filled s (plan_own s) _ l.new.1.1.1.1.1.0 (λ g h. ap (λ (k : ℕ). constants_of k s.gates g) x ∙ own_given s (plan_extra s) g h) l.ensures.1 in

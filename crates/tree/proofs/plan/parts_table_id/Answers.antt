@@ -4,16 +4,12 @@ use Rattle.tree.proofs.PlanCodeLaws.{path_fine, path_refused}
 use Rattle.parameters.specs.Lookup.{mode_of}
 use Rattle.tree.specs.Plan.{plan_fault, plan_in, plan_path, table_id_answer}
 use Rattle.tree.specs.declared.plan.Plan.{Plan}
-use Rattle.tree.proofs.plan.parts_table_id.Goals.{Else-path-ne0, Start}
+use Rattle.tree.proofs.plan.parts_table_id.Goals.{Start}
 use Rattle.tree.proofs.plan.parts_table_id.Goals as goal
 
 -- the plan that the parts are
 abbrev plan : Start → Plan
 plan c = plan_in c.args.outline c.args.gates.now c.args.nodes.now
-
--- a path that is given is that of a plan without a fault
-fine : (c : Else-path-ne0) → plan_fault (plan c) ≡ 0
-fine c = path_fine (plan c.before.before.before.before.before) c.parts_path-path.result c.parts_path-path.ensures c.if-path-ne0.false
 
 pub returns-then-path-ne0 : goal.returns-then-path-ne0
 unfolding table_id_answer
@@ -25,8 +21,9 @@ returns-then-path-ne0 c =
 pub returns-then-mode-eq2 : goal.returns-then-mode-eq2
 unfolding table_id_answer
 returns-then-mode-eq2 c =
+    let fine : plan_fault (plan c.before.before.before.before.before) ≡ 0 = path_fine (plan c.before.before.before.before.before) c.parts_path-path.result c.parts_path-path.ensures c.if-path-ne0.false in
     let s = plan c.before.before.before.before.before.before.before.before in
-    let f = fine c.before.before.before in
+    let f = fine in
     let p = c.parts_path-path in
     let steps : c.length.result ≡ length (plan_path s 0) = c.length.ensures ∙ (path_refused s p.result p.ensures f).steps_are in
     rw (eq-eqb (plan_fault s) 0 f, eq-eqb (mode_of s.lookup) 2 (sym c.mode-mode.ensures ∙ c.if-mode-eq2.true), ← steps) refl
@@ -34,13 +31,15 @@ returns-then-mode-eq2 c =
 pub returns-then-mode-eq4 : goal.returns-then-mode-eq4
 unfolding table_id_answer
 returns-then-mode-eq4 c =
+    let fine : plan_fault (plan c.before.before.before.before.before) ≡ 0 = path_fine (plan c.before.before.before.before.before) c.parts_path-path.result c.parts_path-path.ensures c.if-path-ne0.false in
     let s = plan c.before.before.before.before.before.before.before.before in
     let m = c.mode-mode.ensures in
-    rw (eq-eqb (plan_fault s) 0 (fine c.before.before.before), ne_eqb (mode_of s.lookup) 2 (λ z. c.if-mode-eq2.false (m ∙ z)), eq-eqb (mode_of s.lookup) 4 (sym m ∙ c.if-mode-eq4.true))
+    rw (eq-eqb (plan_fault s) 0 (fine), ne_eqb (mode_of s.lookup) 2 (λ z. c.if-mode-eq2.false (m ∙ z)), eq-eqb (mode_of s.lookup) 4 (sym m ∙ c.if-mode-eq4.true))
 
 pub returns : goal.returns
 unfolding table_id_answer
 returns c =
+    let fine : plan_fault (plan c.before.before.before.before.before) ≡ 0 = path_fine (plan c.before.before.before.before.before) c.parts_path-path.result c.parts_path-path.ensures c.if-path-ne0.false in
     let s = plan c.before.before.before.before.before.before.before.before in
     let m = c.mode-mode.ensures in
-    rw (eq-eqb (plan_fault s) 0 (fine c.before.before.before), ne_eqb (mode_of s.lookup) 2 (λ z. c.if-mode-eq2.false (m ∙ z)), ne_eqb (mode_of s.lookup) 4 (λ z. c.if-mode-eq4.false (m ∙ z)))
+    rw (eq-eqb (plan_fault s) 0 (fine), ne_eqb (mode_of s.lookup) 2 (λ z. c.if-mode-eq2.false (m ∙ z)), ne_eqb (mode_of s.lookup) 4 (λ z. c.if-mode-eq4.false (m ∙ z)))

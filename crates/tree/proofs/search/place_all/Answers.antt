@@ -40,8 +40,8 @@ returns-then-taken-count c =
     let a = c.args in
     let p = c.requires in
     let e = c.try_add_gate-taken.ensures in
-    let n = sym e.0 ∙ c.if-taken-count.true in
-    let kept = e.1 ∙ ap (λ (z : Placed). z.nodes) (refused (may_stand a.extra a.gates.now a.target a.bound) (get_or a.order.now l.i 0) l.nodes l.count most_levels 0 0 n) in
+    let n = sym e.value ∙ c.if-taken-count.true in
+    let kept = e.nodes_after ∙ ap (λ (z : Placed). z.nodes) (refused (may_stand a.extra a.gates.now a.target a.bound) (get_or a.order.now l.i 0) l.nodes l.count most_levels 0 0 n) in
     rw kept record { stands = stands a.extra a.target a.bound a.gates.now a.many a.base a.order.now a.nodes.now p.0.0 p.0.1 p.0.2 p.0.3 p.1.0 p.1.1 _ _
           (grow_fits (may_stand a.extra a.gates.now a.target a.bound) a.gates.now a.many a.base p.0.0 a.order.now p.0.2 p.1.0 _ a.nodes.now c.if-base-ge-MOST_GATES.false c.put_node.ensures (sym c.may_stand.ensures ∙ c.if-may_stand.true)
           ∙ grow_stop (may_stand a.extra a.gates.now a.target a.bound) a.gates.now a.many a.base p.0.0 a.order.now p.0.2 p.1.0 _ l.nodes l.count l.i l.invariant c.loop-i-test.true n); nodes_len = l.invariant.long }
@@ -52,7 +52,7 @@ loop-i-preserved c =
     let a = c.args in
     let p = c.requires in
     let e = c.try_add_gate-taken.ensures in
-    rw (e.0, e.1) (grow_next (may_stand a.extra a.gates.now a.target a.bound) a.gates.now a.many a.base p.0.0 a.order.now p.0.2 p.1.0 _ l.nodes l.count l.i l.invariant c.loop-i-test.true (λ z. c.if-taken-count.false (e.0 ∙ z)))
+    rw (e.value, e.nodes_after) (grow_next (may_stand a.extra a.gates.now a.target a.bound) a.gates.now a.many a.base p.0.0 a.order.now p.0.2 p.1.0 _ l.nodes l.count l.i l.invariant c.loop-i-test.true (λ z. c.if-taken-count.false (e.value ∙ z)))
 
 pub returns-then-may_stand : goal.returns-then-may_stand
 returns-then-may_stand c =

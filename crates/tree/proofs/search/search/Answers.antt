@@ -11,7 +11,7 @@ pub arrange-ranged-requires : goal.arrange-ranged-requires
 arrange-ranged-requires c = record { sound = c.requires.sound; order_len = refl }
 
 pub overflow_sub-base : goal.overflow_sub-base
-overflow_sub-base c = omega (arith, c.arrange-ranged.ensures.degree_value.1.1.1)
+overflow_sub-base c = omega (arith, c.arrange-ranged.ensures.order_len_2.1)
 
 pub overflow_add-left-2 : goal.overflow_add-left-2
 overflow_add-left-2 c =
@@ -45,13 +45,7 @@ try_find_placement_for_degree-count-requires c =
     let l = c.loop-k in
     let w = c.power_above-levels in
     let few : exponent (most_gates - r.result.base) ≤ 7 = exponent-least (most_gates - r.result.base) 7 (omega arith) in
-    let q = top-constants a.gates.now a.many a.extra p.0 in (
-      (p.0.all, omega (arith, r.ensures.1.1.0, w.ensures.0), r.ensures.1.1.1.0, l.invariant.2),
-      (
-        order_listed a.gates.now a.many a.extra r.new.1.1.1.0 r.result.base r.ensures.0,
-        order_distinct a.gates.now a.many a.extra r.new.1.1.1.0 r.result.base r.ensures.0,
-      ),
-    )
+    let q = top-constants a.gates.now a.many a.extra p.0 in record { gate_words_in_bounds = (p.0.all, omega (arith, r.ensures.1.1.0, w.ensures.0), r.ensures.1.1.1.0, l.invariant.2); listed = order_listed a.gates.now a.many a.extra r.new.1.1.1.0 r.result.base r.ensures.0; distinct = order_distinct a.gates.now a.many a.extra r.new.1.1.1.0 r.result.base r.ensures.0 }
 
 pub returns-then-count-ne0 : goal.returns-then-count-ne0
 returns-then-count-ne0 c =
@@ -60,7 +54,7 @@ returns-then-count-ne0 c =
     let l = c.loop-k in
     let w = c.power_above-levels in
     let e = c.try_find_placement_for_degree-count.ensures in record { stands = rw l.invariant.3 (target_won a.many (within a.gates.now a.many a.extra) l.k l.target _ _ c.loop-k-test.true
-          (rw (bounds_are a.gates.now a.many a.extra r.new.1.1.1.0 r.result.base r.ensures.0 l.target _ _ r.ensures.1.1.1.0 w.ensures.0 r.ensures.1.1.0) at e.0) c.if-count-ne0.true); nodes_len_2 = e.1 }
+          (rw (bounds_are a.gates.now a.many a.extra r.new.1.1.1.0 r.result.base r.ensures.0 l.target _ _ r.ensures.1.1.1.0 w.ensures.0 r.ensures.1.1.0) at e.stands) c.if-count-ne0.true); nodes_len_2 = e.nodes_len }
 
 pub overflow_mul-target : goal.overflow_mul-target
 overflow_mul-target c =
@@ -76,9 +70,9 @@ loop-k-preserved c =
     let e = c.try_find_placement_for_degree-count.ensures in (
       omega (arith, l.invariant.0),
       cap-next l.k l.target c.loop-k-test.true l.invariant.0 l.invariant.1,
-      e.1,
+      e.nodes_len,
       l.invariant.3 ∙ target_lost a.many (within a.gates.now a.many a.extra) l.k l.target _ _ c.loop-k-test.true
-          (rw (bounds_are a.gates.now a.many a.extra r.new.1.1.1.0 r.result.base r.ensures.0 l.target _ _ r.ensures.1.1.1.0 w.ensures.0 r.ensures.1.1.0) at e.0) c.if-count-ne0.false,
+          (rw (bounds_are a.gates.now a.many a.extra r.new.1.1.1.0 r.result.base r.ensures.0 l.target _ _ r.ensures.1.1.1.0 w.ensures.0 r.ensures.1.1.0) at e.stands) c.if-count-ne0.false,
     )
 
 pub returns : goal.returns

@@ -20,7 +20,7 @@ returns-then-count-ne0 c =
     let l = c.loop-k in
     let a = c.args in
     let e = c.place_all-count.ensures in
-    record { stands = rw l.invariant.2 (bound_won a.many (each a.gates.now a.order.now a.base a.extra a.target) l.k l.b _ _ c.loop-k-test.true e.0 c.if-count-ne0.true); nodes_len = e.1 }
+    record { stands = rw l.invariant.2 (bound_won a.many (each a.gates.now a.order.now a.base a.extra a.target) l.k l.b _ _ c.loop-k-test.true e.stands c.if-count-ne0.true); nodes_len = e.nodes_len }
 
 pub overflow_add-b : goal.overflow_add-b
 overflow_add-b c =
@@ -45,7 +45,7 @@ loop-k-preserved c =
     let l = c.loop-k in
     let a = c.args in
     let e = c.place_all-count.ensures in
-    (omega (arith, l.invariant.0), e.1, l.invariant.2 ∙ bound-lost a.many (each a.gates.now a.order.now a.base a.extra a.target) l.k l.b _ _ c.loop-k-test.true e.0 c.if-count-ne0.false)
+    (omega (arith, l.invariant.0), e.nodes_len, l.invariant.2 ∙ bound-lost a.many (each a.gates.now a.order.now a.base a.extra a.target) l.k l.b _ _ c.loop-k-test.true e.stands c.if-count-ne0.false)
 
 pub returns : goal.returns
 returns c =
