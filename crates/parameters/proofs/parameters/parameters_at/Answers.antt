@@ -12,3 +12,4 @@ returns c =
   mode = c.word_or_zero-6.ensures i;
   width = c.word_or_zero-7.ensures i;
   share = c.word_or_zero-8.ensures i;
+}
