@@ -67,8 +67,7 @@ fn give_opened(number: u64, plan: &[u64], state: &mut [u64]) -> u64
 
 // Opens the columns of a plan. 19, then 10 for the state, then 10 for the columns, then 9; the state
 // is then of zeros, where its slice has room.
-#[unsafe(no_mangle)]
-pub extern "C" fn kinchoyu_open(
+pub fn kinchoyu_open(
     plan: &[u64],
     state: &mut [u64],
     constants: &mut [u64],
@@ -98,8 +97,7 @@ pub extern "C" fn kinchoyu_open(
 }
 
 // Row records: gate, number of constants, constants. 19, 10, 12, 11, 13.
-#[unsafe(no_mangle)]
-pub extern "C" fn kinchoyu_rows(state: &mut [u64], piece: &[u64], constants: &mut [u64]) -> u64
+pub fn kinchoyu_rows(state: &mut [u64], piece: &[u64], constants: &mut [u64]) -> u64
     ensures value { result ≡ (rows_answer (intake_of state.old) piece.now constants.old).number }
     ensures state_after { state.new ≡ state_words_after (rows_answer (intake_of state.old) piece.now constants.old) state.old }
     ensures constants_after { constants.new ≡ rows_left (intake_of state.old) piece.now constants.old }
@@ -118,8 +116,7 @@ pub extern "C" fn kinchoyu_rows(state: &mut [u64], piece: &[u64], constants: &mu
 }
 
 // Words of the specialised constant columns, column by column. 19, 10, 13, 11.
-#[unsafe(no_mangle)]
-pub extern "C" fn kinchoyu_s_words(state: &mut [u64], piece: &[u64], constants: &mut [u64]) -> u64
+pub fn kinchoyu_s_words(state: &mut [u64], piece: &[u64], constants: &mut [u64]) -> u64
     ensures value { result ≡ (s_words_answer (intake_of state.old) piece.now constants.old).number }
     ensures state_after { state.new ≡ state_words_after (s_words_answer (intake_of state.old) piece.now constants.old) state.old }
     ensures constants_after { constants.new ≡ s_words_left (intake_of state.old) piece.now constants.old }
@@ -137,8 +134,7 @@ pub extern "C" fn kinchoyu_s_words(state: &mut [u64], piece: &[u64], constants: 
 }
 
 // Cell words of the copy columns, column by column. 19, 10, 13, 14.
-#[unsafe(no_mangle)]
-pub extern "C" fn kinchoyu_cells(
+pub fn kinchoyu_cells(
     state: &mut [u64],
     piece: &[u64],
     copies: &mut [u64],
@@ -161,8 +157,7 @@ pub extern "C" fn kinchoyu_cells(
 }
 
 // Table records: width, rows, contents row by row. 19, 10, 15, 11.
-#[unsafe(no_mangle)]
-pub extern "C" fn kinchoyu_tables(state: &mut [u64], piece: &[u64], tables: &mut [u64]) -> u64
+pub fn kinchoyu_tables(state: &mut [u64], piece: &[u64], tables: &mut [u64]) -> u64
     ensures value { result ≡ (tables_answer (intake_of state.old) piece.now tables.old).number }
     ensures state_after { state.new ≡ state_words_after (tables_answer (intake_of state.old) piece.now tables.old) state.old }
     ensures tables_after { tables.new ≡ tables_left (intake_of state.old) piece.now tables.old }
@@ -180,8 +175,7 @@ pub extern "C" fn kinchoyu_tables(state: &mut [u64], piece: &[u64], tables: &mut
 }
 
 // Finishing; scratch is read alone. 19, 10, 16, 17, 18.
-#[unsafe(no_mangle)]
-pub extern "C" fn kinchoyu_finish(state: &mut [u64], copies: &mut [u64], scratch: &[u64]) -> u64
+pub fn kinchoyu_finish(state: &mut [u64], copies: &mut [u64], scratch: &[u64]) -> u64
     ensures value { result ≡ (finish_answer (intake_of state.old) (cols copies.old scratch.now)).number }
     ensures state_after { state.new ≡ state_words_after (finish_answer (intake_of state.old) (cols copies.old scratch.now)) state.old }
     ensures copies_after { copies.new ≡ finish_left (intake_of state.old) (cols copies.old scratch.now) }

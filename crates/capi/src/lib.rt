@@ -1,6 +1,7 @@
 // Functions for callers in C and Rust. Each takes any words at all; slices pass as pointer and
 // length. The answer is 0 or 01's refusal number.
 #![tactic(auto)]
+
 ghost use Rattle.std.specs.Prelude.{◌≡◌};
 ghost use Rattle.encoding.specs.Encoding.{plan_length, state_length};
 
@@ -13,16 +14,14 @@ pub mod padded;
 pub mod planning;
 
 // How many words a plan has.
-#[unsafe(no_mangle)]
-pub extern "C" fn kinchoyu_plan_words() -> u64
+pub fn kinchoyu_plan_words() -> u64
     ensures { result ≡ plan_length }
 {
     PLAN_WORDS as u64
 }
 
 // How many words a state has.
-#[unsafe(no_mangle)]
-pub extern "C" fn kinchoyu_state_words() -> u64
+pub fn kinchoyu_state_words() -> u64
     ensures { result ≡ state_length }
 {
     STATE_WORDS as u64

@@ -63,8 +63,7 @@ fn run_over<'a>(
 // the list has its kind (1 rows, 2 S words, 3 cells, 4 tables, 5 finishing), the number of its words,
 // and the words; those of a finishing are not read. Each call's number goes to `numbers`. 20 for a list that is
 // cut short or has another kind, then 10 for the numbers; both write nothing. Else 0, whatever the calls' numbers are.
-#[unsafe(no_mangle)]
-pub extern "C" fn kinchoyu_calls(
+pub fn kinchoyu_calls(
     state: &mut [u64],
     list: &[u64],
     numbers: &mut [u64],

@@ -23,8 +23,7 @@ fn short_plan(listing: &[u64]) -> u64
 // Reads a listing, plans, opens, gives every section and finishes; hands back the plan. 20, then 10 for a
 // plan that is too short, then the circuit's own numbers. A refusal writes no column, and leaves a plan of
 // zeros, where there is room.
-#[unsafe(no_mangle)]
-pub extern "C" fn kinchoyu_run(
+pub fn kinchoyu_run(
     listing: &[u64],
     plan: &mut [u64],
     constants: &mut [u64],

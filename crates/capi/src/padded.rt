@@ -7,8 +7,7 @@ use padding::padding::pad;
 // Reads a listing, writes the padded one to the front of `out` and its number of words to `count`. 20,
 // then the circuit's own numbers, then 10 for `out` or `count`. A refusal leaves `out` as it was and a
 // count of 0, where there is room.
-#[unsafe(no_mangle)]
-pub extern "C" fn kinchoyu_pad(listing: &[u64], out: &mut [u64], count: &mut [u64]) -> u64
+pub fn kinchoyu_pad(listing: &[u64], out: &mut [u64], count: &mut [u64]) -> u64
     ensures value { result ≡ pad_call listing.now out.old count.old }
     ensures out_after { out.new ≡ pad_out listing.now out.old count.old }
     ensures count_after { count.new ≡ pad_count listing.now out.old count.old }

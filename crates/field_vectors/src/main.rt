@@ -1,8 +1,10 @@
 // Replays recorded sums, differences, products, powers and residue tests (standard input: the words
 // of field.words) and writes how many were compared, and how many differed.
 #![tactic(auto)]
-use libc::STDOUT_FILENO;
+
+use octets::input::fill as read_input;
 use replay::Replay;
+use std::io;
 
 // The answer to one record: 0 add, 1 sub, 2 mul, 3 pow, 4 whether a is a non-residue.
 fn answer(operation: u64, a: u64, b: u64) -> u64 {
@@ -40,20 +42,17 @@ fn replay_records(bytes: &[u8], start: Replay, count: u64) -> Replay {
     s
 }
 
-fn line(name: &[u8], count: u64) {
-    io::write_all(STDOUT_FILENO, name);
-    io::print_decimal(STDOUT_FILENO, count);
-    io::write_all(STDOUT_FILENO, b"\n");
-}
-
-fn main() {
+fn main(rt: HostRuntime) -> io::Result<()> {
     let mut buffer = [0u8; 131072];
-    let length = io::read_full(0, &mut buffer);
+    let length = read_input(&mut rt.stdin(), &mut buffer)?;
     let bytes = &buffer[..length];
     let count = octets::words::word_at(bytes, 2);
     let s = replay_records(bytes, Replay::new().step().step().step(), count);
-    line(b"records ", count);
-    line(b"words ", s.at);
-    line(b"comparisons ", s.compared);
-    line(b"differences ", s.differences);
+    println!(rt; "records {count}")?;
+    let at = s.at;
+    println!(rt; "words {at}")?;
+    let compared = s.compared;
+    println!(rt; "comparisons {compared}")?;
+    let differences = s.differences;
+    println!(rt; "differences {differences}")
 }

@@ -1,9 +1,11 @@
 // Replays recorded representatives and labels (standard input: the words of labels.words) and
 // writes how many records and words were compared, and how many differed.
 #![tactic(auto)]
+
 use labels::ColumnWords;
-use libc::STDOUT_FILENO;
+use octets::input::fill as read_input;
 use replay::Replay;
+use std::io;
 
 // A word for each of c columns as recorded, and zeros in the slots past them.
 fn replay_columns(bytes: &[u8], start: Replay, c: u64, words: &ColumnWords) -> Replay {
@@ -116,15 +118,9 @@ fn replay_refused_records(bytes: &[u8], start: Replay, count: u64) -> Replay {
     s
 }
 
-fn line(name: &[u8], count: u64) {
-    io::write_all(STDOUT_FILENO, name);
-    io::print_decimal(STDOUT_FILENO, count);
-    io::write_all(STDOUT_FILENO, b"\n");
-}
-
-fn main() {
-    let mut buffer = io::large_buffer();
-    let length = io::read_full(0, &mut buffer);
+fn main(rt: HostRuntime) -> io::Result<()> {
+    let mut buffer = [0u8; 65536];
+    let length = read_input(&mut rt.stdin(), &mut buffer)?;
     let bytes = &buffer[..length];
     let accepted = octets::words::word_at(bytes, 2);
     let refused = octets::words::word_at(bytes, 3);
@@ -135,9 +131,12 @@ fn main() {
     let s = version
         .note(length / 8 == all.at as usize)
         .note(length % 8 == 0);
-    line(b"accepted records ", accepted);
-    line(b"refused records ", refused);
-    line(b"words ", s.at);
-    line(b"comparisons ", s.compared);
-    line(b"differences ", s.differences);
+    println!(rt; "accepted records {accepted}")?;
+    println!(rt; "refused records {refused}")?;
+    let at = s.at;
+    println!(rt; "words {at}")?;
+    let compared = s.compared;
+    println!(rt; "comparisons {compared}")?;
+    let differences = s.differences;
+    println!(rt; "differences {differences}")
 }

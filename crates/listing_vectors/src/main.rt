@@ -4,7 +4,8 @@
 #![tactic(auto)]
 ghost use Rattle.std.specs.Prelude.{◌≡◌, length};
 
-use libc::STDOUT_FILENO;
+use octets::input::fill as read_input;
+use std::io;
 use program::program::{INPUT_ROOM, Input, OUTPUT_ROOM, Output, run_bytes};
 use replay::Replay;
 
@@ -103,15 +104,9 @@ fn replay_listings(bytes: &[u8], start: Replay, count: u64) -> Replay {
     s
 }
 
-fn line(name: &[u8], count: u64) {
-    io::write_all(STDOUT_FILENO, name);
-    io::print_decimal(STDOUT_FILENO, count);
-    io::write_all(STDOUT_FILENO, b"\n");
-}
-
-fn main() {
+fn main(rt: HostRuntime) -> io::Result<()> {
     let mut buffer = space();
-    let length = io::read_full(0, &mut buffer);
+    let length = read_input(&mut rt.stdin(), &mut buffer)?;
     let bytes = &buffer[..length];
     let count = octets::words::word_at(bytes, 2);
     let all = replay_listings(bytes, Replay::new().step().step().step(), count);
@@ -119,8 +114,11 @@ fn main() {
     let s = version
         .note(length / 8 == all.at as usize)
         .note(length % 8 == 0);
-    line(b"listings ", count);
-    line(b"words ", s.at);
-    line(b"comparisons ", s.compared);
-    line(b"differences ", s.differences);
+    println!(rt; "listings {count}")?;
+    let at = s.at;
+    println!(rt; "words {at}")?;
+    let compared = s.compared;
+    println!(rt; "comparisons {compared}")?;
+    let differences = s.differences;
+    println!(rt; "differences {differences}")
 }

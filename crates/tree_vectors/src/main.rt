@@ -3,7 +3,8 @@
 #![tactic(auto)]
 ghost use Rattle.std.specs.Prelude.{◌≡◌, length};
 
-use libc::STDOUT_FILENO;
+use octets::input::fill as read_input;
+use std::io;
 use parameters::parameters::Parameters;
 use replay::Replay;
 use selector::{GATE_SLOTS, GateSlots, NODE_SLOTS, Nodes};
@@ -205,15 +206,9 @@ fn replay_made_up_plans(bytes: &[u8], start: Replay, count: u64) -> Replay {
     s
 }
 
-fn line(name: &[u8], count: u64) {
-    io::write_all(STDOUT_FILENO, name);
-    io::print_decimal(STDOUT_FILENO, count);
-    io::write_all(STDOUT_FILENO, b"\n");
-}
-
-fn main() {
+fn main(rt: HostRuntime) -> io::Result<()> {
     let mut buffer = space();
-    let length = io::read_full(0, &mut buffer);
+    let length = read_input(&mut rt.stdin(), &mut buffer)?;
     let bytes = &buffer[..length];
     let plans = octets::words::word_at(bytes, 2);
     let made_up = octets::words::word_at(bytes, 3);
@@ -223,9 +218,12 @@ fn main() {
     let s = version
         .note(length / 8 == all.at as usize)
         .note(length % 8 == 0);
-    line(b"plans ", plans);
-    line(b"made-up plans ", made_up);
-    line(b"words ", s.at);
-    line(b"comparisons ", s.compared);
-    line(b"differences ", s.differences);
+    println!(rt; "plans {plans}")?;
+    println!(rt; "made-up plans {made_up}")?;
+    let at = s.at;
+    println!(rt; "words {at}")?;
+    let compared = s.compared;
+    println!(rt; "comparisons {compared}")?;
+    let differences = s.differences;
+    println!(rt; "differences {differences}")
 }

@@ -1,6 +1,6 @@
--- `setup::fill` is safe and ends. The bytes read lie in the room, whose length stays; each turn leaves less of it.
+-- `octets::input::fill` is safe and ends. The bytes read lie in the room, whose length stays; each turn leaves less of it.
 use Rattle.std.proofs.Common.{◌≡◌, ◌-◌, ◌≤◌, length}
-use Rattle.setup.proofs.fill.Given as goal
+use Rattle.octets.proofs.input.fill.Given as goal
 
 abbrev pub invariant-loop-many : goal.invariant-loop-many
 invariant-loop-many l = (l.many ≤ length l.room) × (length l.room ≡ length l.initial.room)
