@@ -32,10 +32,10 @@ returns-then-as_wanted c =
     let a = c.args in
     let gs = a.gates.now in
     let r = c.visit-fine in
-    let ms = r.new.1.1.0 in
-    let most = r.new.1.1.1.0 in
+    let ms = r.new.marks in
+    let most = r.new.most in
     let v = walk ms most r.result in
-    let e = fit_by a.extra gs a.many a.nodes.now a.count a.told.degree a.told.constants a.told.factor c.requires.sound.few v (omega (arith, c.if-count-eq0.false)) c.if-count-gt-MOST_NODES.false (sym c.linked.ensures ∙ c.if-linked.true) r.ensures.0 in
+    let e = fit_by a.extra gs a.many a.nodes.now a.count a.told.degree a.told.constants a.told.factor c.requires.sound.few v (omega (arith, c.if-count-eq0.false)) c.if-count-gt-MOST_NODES.false (sym c.linked.ensures ∙ c.if-linked.true) r.ensures.visited in
     let more = as_wanted a.many gs a.many (λ (g : ℕ). get_or ms g 0) 0 in
     let last = numbers_are (get_or most 0 0) (get_or most 1 0) a.told.degree a.told.constants a.told.factor in
     c.numbers_fit.ensures ∙ sym (e ∙ pick_yes r.result _ false c.if-fine.true ∙ pick_yes more last false (sym c.as_wanted.ensures ∙ c.if-as_wanted.true))
@@ -45,10 +45,10 @@ returns-else-as_wanted c =
     let a = c.args in
     let gs = a.gates.now in
     let r = c.visit-fine in
-    let ms = r.new.1.1.0 in
-    let most = r.new.1.1.1.0 in
+    let ms = r.new.marks in
+    let most = r.new.most in
     let v = walk ms most r.result in
-    let e = fit_by a.extra gs a.many a.nodes.now a.count a.told.degree a.told.constants a.told.factor c.requires.sound.few v (omega (arith, c.if-count-eq0.false)) c.if-count-gt-MOST_NODES.false (sym c.linked.ensures ∙ c.if-linked.true) r.ensures.0 in
+    let e = fit_by a.extra gs a.many a.nodes.now a.count a.told.degree a.told.constants a.told.factor c.requires.sound.few v (omega (arith, c.if-count-eq0.false)) c.if-count-gt-MOST_NODES.false (sym c.linked.ensures ∙ c.if-linked.true) r.ensures.visited in
     let more = as_wanted a.many gs a.many (λ (g : ℕ). get_or ms g 0) 0 in
     let last = numbers_are (get_or most 0 0) (get_or most 1 0) a.told.degree a.told.constants a.told.factor in
     sym (e ∙ pick_yes r.result _ false c.if-fine.true ∙ pick_no more last false (sym c.as_wanted.ensures ∙ c.if-as_wanted.false))
@@ -58,10 +58,10 @@ returns-else-fine c =
     let a = c.args in
     let gs = a.gates.now in
     let r = c.visit-fine in
-    let ms = r.new.1.1.0 in
-    let most = r.new.1.1.1.0 in
+    let ms = r.new.marks in
+    let most = r.new.most in
     let v = walk ms most r.result in
-    let e = fit_by a.extra gs a.many a.nodes.now a.count a.told.degree a.told.constants a.told.factor c.requires.sound.few v (omega (arith, c.if-count-eq0.false)) c.if-count-gt-MOST_NODES.false (sym c.linked.ensures ∙ c.if-linked.true) r.ensures.0 in
+    let e = fit_by a.extra gs a.many a.nodes.now a.count a.told.degree a.told.constants a.told.factor c.requires.sound.few v (omega (arith, c.if-count-eq0.false)) c.if-count-gt-MOST_NODES.false (sym c.linked.ensures ∙ c.if-linked.true) r.ensures.visited in
     sym (e ∙ pick_no r.result _ false c.if-fine.false)
 
 pub returns-else-linked : goal.returns-else-linked

@@ -9,14 +9,14 @@ returns-then-count-eq0 c =
     let a = c.args in
     let r = c.compute_placement-count in
     let q = plan_tree a.extra a.gates.now a.many in
-    rw (not_found a.many q _ _ r.ensures.0 c.if-count-eq0.true) refl
+    rw (not_found a.many q _ _ r.ensures.stands c.if-count-eq0.true) refl
 
 pub lay-done-requires : goal.lay-done-requires
 lay-done-requires c =
     let a = c.args in
     let r = c.compute_placement-count in
     let q = plan_tree a.extra a.gates.now a.many in
-    let w = found a.many q r.new.1.0 r.result r.ensures.0 c.if-count-eq0.false in
+    let w = found a.many q r.new.nodes r.result r.ensures.stands c.if-count-eq0.false in
     record { sound = c.requires; room = found_room a.many q _ _ w; levels_bound = omega arith }
 
 pub factor_of-factor-requires : goal.factor_of-factor-requires
@@ -24,7 +24,7 @@ factor_of-factor-requires c =
     let a = c.args in
     let r = c.compute_placement-count in
     let q = plan_tree a.extra a.gates.now a.many in
-    let w = found a.many q r.new.1.0 r.result r.ensures.0 c.if-count-eq0.false in
+    let w = found a.many q r.new.nodes r.result r.ensures.stands c.if-count-eq0.false in
     laid-small a.extra a.gates.now a.many q _ _ w _ _ (c.lay-done.ensures w.tree w.whole w.shallow) c.requires
 
 pub returns : goal.returns
@@ -32,5 +32,5 @@ returns c =
     let a = c.args in
     let r = c.compute_placement-count in
     let q = plan_tree a.extra a.gates.now a.many in
-    let w = found a.many q r.new.1.0 r.result r.ensures.0 c.if-count-eq0.false in
+    let w = found a.many q r.new.nodes r.result r.ensures.stands c.if-count-eq0.false in
     laid_shape a.extra a.gates.now a.many q _ _ w _ _ (c.lay-done.ensures w.tree w.whole w.shallow) _ c.factor_of-factor.ensures.0

@@ -1,6 +1,6 @@
 -- `search::place_all` meets its contract. The loop offers the gates after the first; its invariant is that the flat run of the whole list is that of
 -- what is left, from the nodes at hand. The flat run is the definition's by `flat_grows`.
-use Rattle.std.proofs.Common.{◌-◌, get_or, ◌∙◌, ap, sym, arith}
+use Rattle.std.proofs.Common.{get_or, ◌∙◌, ap, sym, arith}
 use Rattle.selector.specs.Nodes.{most_levels}
 use Rattle.selector.specs.Flat.{Placed}
 use Rattle.selector.specs.FlatLaws.{refused}
@@ -12,7 +12,7 @@ pub returns-then-base-ge-MOST_GATES : goal.returns-then-base-ge-MOST_GATES
 returns-then-base-ge-MOST_GATES c =
     let a = c.args in
     let p = c.requires in
-    record { stands = stands a.extra a.target a.bound a.gates.now a.many a.base a.order.now a.nodes.now p.0.0 p.0.1 p.0.2 p.0.3 p.1.0 p.1.1 _ _ (grow_none (may_stand a.extra a.gates.now a.target a.bound) a.gates.now a.many a.base p.0.0 a.order.now p.0.2 p.1.0 a.nodes.now a.nodes.now c.if-base-ge-MOST_GATES.true); nodes_len = p.0.3 }
+    record { stands = stands a.extra a.target a.bound a.gates.now a.many a.base a.order.now a.nodes.now p.gate_words_in_bounds.0 p.gate_words_in_bounds.1 p.gate_words_in_bounds.2 p.gate_words_in_bounds.3 p.listed p.distinct _ _ (grow_none (may_stand a.extra a.gates.now a.target a.bound) a.gates.now a.many a.base p.gate_words_in_bounds.0 a.order.now p.gate_words_in_bounds.2 p.listed a.nodes.now a.nodes.now c.if-base-ge-MOST_GATES.true); nodes_len = p.gate_words_in_bounds.3 }
 
 pub bounds-order-base : goal.bounds-order-base
 bounds-order-base c = omega (arith, c.if-base-ge-MOST_GATES.false)
@@ -21,13 +21,13 @@ pub may_stand-requires : goal.may_stand-requires
 may_stand-requires c =
     let a = c.args in
     let p = c.requires in
-    omega (arith, listed_at a.many a.order.now a.base a.base p.1.0 (omega arith) (omega (arith, p.0.2, c.if-base-ge-MOST_GATES.false)), p.0.0)
+    omega (arith, listed_at a.many a.order.now a.base a.base p.listed (omega arith) (omega (arith, p.gate_words_in_bounds.2, c.if-base-ge-MOST_GATES.false)), p.gate_words_in_bounds.0)
 
 pub loop-i-init : goal.loop-i-init
 loop-i-init c =
     let a = c.args in
     let p = c.requires in
-    grow_begin (may_stand a.extra a.gates.now a.target a.bound) a.gates.now a.many a.base p.0.0 a.order.now p.0.2 p.1.0 _ a.nodes.now c.if-base-ge-MOST_GATES.false p.0.3 c.put_node.ensures
+    grow_begin (may_stand a.extra a.gates.now a.target a.bound) a.gates.now a.many a.base p.gate_words_in_bounds.0 a.order.now p.gate_words_in_bounds.2 p.listed _ a.nodes.now c.if-base-ge-MOST_GATES.false p.gate_words_in_bounds.3 c.put_node.ensures
 
 pub try_add_gate-taken-requires : goal.try_add_gate-taken-requires
 try_add_gate-taken-requires c =
@@ -42,9 +42,9 @@ returns-then-taken-count c =
     let e = c.try_add_gate-taken.ensures in
     let n = sym e.value ∙ c.if-taken-count.true in
     let kept = e.nodes_after ∙ ap (λ (z : Placed). z.nodes) (refused (may_stand a.extra a.gates.now a.target a.bound) (get_or a.order.now l.i 0) l.nodes l.count most_levels 0 0 n) in
-    rw kept record { stands = stands a.extra a.target a.bound a.gates.now a.many a.base a.order.now a.nodes.now p.0.0 p.0.1 p.0.2 p.0.3 p.1.0 p.1.1 _ _
-          (grow_fits (may_stand a.extra a.gates.now a.target a.bound) a.gates.now a.many a.base p.0.0 a.order.now p.0.2 p.1.0 _ a.nodes.now c.if-base-ge-MOST_GATES.false c.put_node.ensures (sym c.may_stand.ensures ∙ c.if-may_stand.true)
-          ∙ grow_stop (may_stand a.extra a.gates.now a.target a.bound) a.gates.now a.many a.base p.0.0 a.order.now p.0.2 p.1.0 _ l.nodes l.count l.i l.invariant c.loop-i-test.true n); nodes_len = l.invariant.long }
+    rw kept record { stands = stands a.extra a.target a.bound a.gates.now a.many a.base a.order.now a.nodes.now p.gate_words_in_bounds.0 p.gate_words_in_bounds.1 p.gate_words_in_bounds.2 p.gate_words_in_bounds.3 p.listed p.distinct _ _
+          (grow_fits (may_stand a.extra a.gates.now a.target a.bound) a.gates.now a.many a.base p.gate_words_in_bounds.0 a.order.now p.gate_words_in_bounds.2 p.listed _ a.nodes.now c.if-base-ge-MOST_GATES.false c.put_node.ensures (sym c.may_stand.ensures ∙ c.if-may_stand.true)
+          ∙ grow_stop (may_stand a.extra a.gates.now a.target a.bound) a.gates.now a.many a.base p.gate_words_in_bounds.0 a.order.now p.gate_words_in_bounds.2 p.listed _ l.nodes l.count l.i l.invariant c.loop-i-test.true n); nodes_len = l.invariant.long }
 
 pub loop-i-preserved : goal.loop-i-preserved
 loop-i-preserved c =
@@ -52,18 +52,18 @@ loop-i-preserved c =
     let a = c.args in
     let p = c.requires in
     let e = c.try_add_gate-taken.ensures in
-    rw (e.value, e.nodes_after) (grow_next (may_stand a.extra a.gates.now a.target a.bound) a.gates.now a.many a.base p.0.0 a.order.now p.0.2 p.1.0 _ l.nodes l.count l.i l.invariant c.loop-i-test.true (λ z. c.if-taken-count.false (e.value ∙ z)))
+    rw (e.value, e.nodes_after) (grow_next (may_stand a.extra a.gates.now a.target a.bound) a.gates.now a.many a.base p.gate_words_in_bounds.0 a.order.now p.gate_words_in_bounds.2 p.listed _ l.nodes l.count l.i l.invariant c.loop-i-test.true (λ z. c.if-taken-count.false (e.value ∙ z)))
 
 pub returns-then-may_stand : goal.returns-then-may_stand
 returns-then-may_stand c =
     let l = c.loop-i in
     let a = c.args in
-    let p = c.requires in record { stands = stands a.extra a.target a.bound a.gates.now a.many a.base a.order.now a.nodes.now p.0.0 p.0.1 p.0.2 p.0.3 p.1.0 p.1.1 _ _
-          (grow_fits (may_stand a.extra a.gates.now a.target a.bound) a.gates.now a.many a.base p.0.0 a.order.now p.0.2 p.1.0 _ a.nodes.now c.if-base-ge-MOST_GATES.false c.put_node.ensures (sym c.may_stand.ensures ∙ c.if-may_stand.true)
-          ∙ grow_end (may_stand a.extra a.gates.now a.target a.bound) a.gates.now a.many a.base p.0.0 a.order.now p.0.2 p.1.0 _ l.nodes l.count l.i l.invariant c.loop-i-test.false); nodes_len = l.invariant.long }
+    let p = c.requires in record { stands = stands a.extra a.target a.bound a.gates.now a.many a.base a.order.now a.nodes.now p.gate_words_in_bounds.0 p.gate_words_in_bounds.1 p.gate_words_in_bounds.2 p.gate_words_in_bounds.3 p.listed p.distinct _ _
+          (grow_fits (may_stand a.extra a.gates.now a.target a.bound) a.gates.now a.many a.base p.gate_words_in_bounds.0 a.order.now p.gate_words_in_bounds.2 p.listed _ a.nodes.now c.if-base-ge-MOST_GATES.false c.put_node.ensures (sym c.may_stand.ensures ∙ c.if-may_stand.true)
+          ∙ grow_end (may_stand a.extra a.gates.now a.target a.bound) a.gates.now a.many a.base p.gate_words_in_bounds.0 a.order.now p.gate_words_in_bounds.2 p.listed _ l.nodes l.count l.i l.invariant c.loop-i-test.false); nodes_len = l.invariant.long }
 
 pub returns : goal.returns
 returns c =
     let a = c.args in
-    let p = c.requires in record { stands = stands a.extra a.target a.bound a.gates.now a.many a.base a.order.now a.nodes.now p.0.0 p.0.1 p.0.2 p.0.3 p.1.0 p.1.1 _ _
-          (grow_not (may_stand a.extra a.gates.now a.target a.bound) a.gates.now a.many a.base p.0.0 a.order.now p.0.2 p.1.0 a.nodes.now a.nodes.now c.if-base-ge-MOST_GATES.false (sym c.may_stand.ensures ∙ c.if-may_stand.false)); nodes_len = p.0.3 }
+    let p = c.requires in record { stands = stands a.extra a.target a.bound a.gates.now a.many a.base a.order.now a.nodes.now p.gate_words_in_bounds.0 p.gate_words_in_bounds.1 p.gate_words_in_bounds.2 p.gate_words_in_bounds.3 p.listed p.distinct _ _
+          (grow_not (may_stand a.extra a.gates.now a.target a.bound) a.gates.now a.many a.base p.gate_words_in_bounds.0 a.order.now p.gate_words_in_bounds.2 p.listed a.nodes.now a.nodes.now c.if-base-ge-MOST_GATES.false (sym c.may_stand.ensures ∙ c.if-may_stand.false)); nodes_len = p.gate_words_in_bounds.3 }

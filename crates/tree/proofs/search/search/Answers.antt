@@ -24,7 +24,7 @@ factor_of-target-requires c =
     let a = c.args in
     let p = c.requires in
     let r = c.arrange-ranged in
-    omega (arith, r.ensures.1.0, top-degree a.gates.now a.many a.extra p.0)
+    omega (arith, r.ensures.degree_value, top-degree a.gates.now a.many a.extra p.sound)
 
 pub loop-k-init : goal.loop-k-init
 loop-k-init c =
@@ -33,8 +33,8 @@ loop-k-init c =
     let r = c.arrange-ranged in (
       omega arith,
       omega (arith, c.factor_of-target.ensures.1),
-      p.1,
-      search_begin a.gates.now a.many a.extra _ (c.factor_of-target.ensures.0 ∙ ap factor_of r.ensures.1.0),
+      p.nodes_len,
+      search_begin a.gates.now a.many a.extra _ (c.factor_of-target.ensures.0 ∙ ap factor_of r.ensures.degree_value),
     )
 
 pub try_find_placement_for_degree-count-requires : goal.try_find_placement_for_degree-count-requires
@@ -45,7 +45,7 @@ try_find_placement_for_degree-count-requires c =
     let l = c.loop-k in
     let w = c.power_above-levels in
     let few : exponent (most_gates - r.result.base) ≤ 7 = exponent-least (most_gates - r.result.base) 7 (omega arith) in
-    let q = top-constants a.gates.now a.many a.extra p.0 in record { gate_words_in_bounds = (p.0.all, omega (arith, r.ensures.1.1.0, w.ensures.0), r.ensures.1.1.1.0, l.invariant.2); listed = order_listed a.gates.now a.many a.extra r.new.1.1.1.0 r.result.base r.ensures.0; distinct = order_distinct a.gates.now a.many a.extra r.new.1.1.1.0 r.result.base r.ensures.0 }
+    let q = top-constants a.gates.now a.many a.extra p.sound in record { gate_words_in_bounds = (p.sound.all, omega (arith, r.ensures.constants_value, w.ensures.0), r.ensures.order_len_2.0, l.invariant.2); listed = order_listed a.gates.now a.many a.extra r.new.order r.result.base r.ensures.order_after; distinct = order_distinct a.gates.now a.many a.extra r.new.order r.result.base r.ensures.order_after }
 
 pub returns-then-count-ne0 : goal.returns-then-count-ne0
 returns-then-count-ne0 c =
@@ -54,7 +54,7 @@ returns-then-count-ne0 c =
     let l = c.loop-k in
     let w = c.power_above-levels in
     let e = c.try_find_placement_for_degree-count.ensures in record { stands = rw l.invariant.3 (target_won a.many (within a.gates.now a.many a.extra) l.k l.target _ _ c.loop-k-test.true
-          (rw (bounds_are a.gates.now a.many a.extra r.new.1.1.1.0 r.result.base r.ensures.0 l.target _ _ r.ensures.1.1.1.0 w.ensures.0 r.ensures.1.1.0) at e.stands) c.if-count-ne0.true); nodes_len_2 = e.nodes_len }
+          (rw (bounds_are a.gates.now a.many a.extra r.new.order r.result.base r.ensures.order_after l.target _ _ r.ensures.order_len_2.0 w.ensures.0 r.ensures.constants_value) at e.stands) c.if-count-ne0.true); nodes_len_2 = e.nodes_len }
 
 pub overflow_mul-target : goal.overflow_mul-target
 overflow_mul-target c =
@@ -72,7 +72,7 @@ loop-k-preserved c =
       cap-next l.k l.target c.loop-k-test.true l.invariant.0 l.invariant.1,
       e.nodes_len,
       l.invariant.3 ∙ target_lost a.many (within a.gates.now a.many a.extra) l.k l.target _ _ c.loop-k-test.true
-          (rw (bounds_are a.gates.now a.many a.extra r.new.1.1.1.0 r.result.base r.ensures.0 l.target _ _ r.ensures.1.1.1.0 w.ensures.0 r.ensures.1.1.0) at e.stands) c.if-count-ne0.false,
+          (rw (bounds_are a.gates.now a.many a.extra r.new.order r.result.base r.ensures.order_after l.target _ _ r.ensures.order_len_2.0 w.ensures.0 r.ensures.constants_value) at e.stands) c.if-count-ne0.false,
     )
 
 pub returns : goal.returns

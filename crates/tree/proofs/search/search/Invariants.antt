@@ -1,5 +1,5 @@
 -- `search::search` meets its contract: the targets that are left, from the present one on, have the first tree of all.
-use Rattle.std.proofs.Common.{◌-◌, ◌≤◌, length, ◌≡◌}
+use Rattle.std.proofs.Common.{◌≤◌, length, ◌≡◌}
 use Rattle.selector.specs.Nodes.{node_slots}
 use Rattle.selector.specs.Search.{first_target, search_tree, targets}
 use Rattle.tree.proofs.SearchLaws.{cap, within}

@@ -7,13 +7,13 @@ use Rattle.tree.proofs.search.try_find_placement_for_degree.Goals as goal
 pub loop-k-init : goal.loop-k-init
 loop-k-init c =
     let p = c.requires in
-    (refl, p.0.3, refl)
+    (refl, p.gate_words_in_bounds.3, refl)
 
 pub place_all-count-requires : goal.place_all-count-requires
 place_all-count-requires c =
     let l = c.loop-k in
     let p = c.requires in
-    ((p.0.0, omega (arith, p.0.1, l.invariant.0, c.loop-k-test.true), p.0.2, l.invariant.1), p.1)
+    record { gate_words_in_bounds = (p.gate_words_in_bounds.0, omega (arith, l.invariant.0, c.loop-k-test.true, p.gate_words_in_bounds.1), p.gate_words_in_bounds.2, l.invariant.1); listed = p.listed; distinct = p.distinct }
 
 pub returns-then-count-ne0 : goal.returns-then-count-ne0
 returns-then-count-ne0 c =
@@ -26,19 +26,19 @@ pub overflow_add-b : goal.overflow_add-b
 overflow_add-b c =
     let l = c.loop-k in
     let p = c.requires in
-    omega (arith, l.invariant.0, p.0.1)
+    omega (arith, l.invariant.0, p.gate_words_in_bounds.1)
 
 pub overflow_sub-k : goal.overflow_sub-k
 overflow_sub-k c =
     let l = c.loop-k in
     let p = c.requires in
-    omega (arith, l.invariant.0, p.0.1)
+    omega (arith, l.invariant.0, p.gate_words_in_bounds.1)
 
 pub loop-k-smaller : goal.loop-k-smaller
 loop-k-smaller c =
     let l = c.loop-k in
     let p = c.requires in
-    omega (arith, l.invariant.0, p.0.1)
+    omega (arith, l.invariant.0, p.gate_words_in_bounds.1)
 
 pub loop-k-preserved : goal.loop-k-preserved
 loop-k-preserved c =
