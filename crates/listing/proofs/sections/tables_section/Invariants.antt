@@ -1,6 +1,5 @@
 -- `listing::sections::tables_section` meets its contract. The loop's invariant, `Going`: the tables end where those that are left end, from i on. What `product_within` answers is `fitting` or
 -- `too_long`, and the product is made only after it.
-use Rattle.std.proofs.Common.{◌-◌}
 use Rattle.pieces.specs.Records.{table_size}
 use Rattle.listing.specs.EndLaws.{Going}
 use Rattle.listing.proofs.sections.tables_section.Given as goal

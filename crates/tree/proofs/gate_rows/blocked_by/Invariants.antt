@@ -1,5 +1,5 @@
 -- `gate_rows::blocked_by` meets its contract: the gates that are left decide what all of them decide.
-use Rattle.std.proofs.Common.{◌-◌, ◌≤◌, ℕ, eqb, get_or, Bool, List, ◌≡◌}
+use Rattle.std.proofs.Common.{◌≤◌, ℕ, eqb, get_or, Bool, List, ◌≡◌}
 use Rattle.selector.specs.Markers.{marker_ends}
 use Rattle.tree.proofs.gate_rows.blocked_by.Given as goal
 

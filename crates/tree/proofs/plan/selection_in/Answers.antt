@@ -11,16 +11,16 @@ returns-then-many-gate c =
 pub output_placement-found-requires : goal.output_placement-found-requires
 output_placement-found-requires c =
     let p = c.requires in
-    record { links = p.0; at_lt_count = (p.1.0, p.1.1, omega arith, p.1.2) }
+    record { links = p.links; at_lt_count = (p.count_nonzero.0, p.count_nonzero.1, omega arith, p.count_nonzero.2) }
 
 pub returns-then-found : goal.returns-then-found
 returns-then-found c =
     let a = c.args in
     let f = c.output_placement-found in
-    λ t q. selection_found a.many a.gate t f.result (omega (arith, c.if-many-gate.false)) (f.ensures.0 t q) c.if-found.true
+    λ t q. selection_found a.many a.gate t f.result (omega (arith, c.if-many-gate.false)) (f.ensures.value t q) c.if-found.true
 
 pub returns : goal.returns
 returns c =
     let a = c.args in
     let f = c.output_placement-found in
-    λ t q. selection_lost a.many a.gate t f.result (omega (arith, c.if-many-gate.false)) (f.ensures.0 t q) c.if-found.false
+    λ t q. selection_lost a.many a.gate t f.result (omega (arith, c.if-many-gate.false)) (f.ensures.value t q) c.if-found.false

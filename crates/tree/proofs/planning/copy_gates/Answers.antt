@@ -1,5 +1,5 @@
 -- `planning::copy_gates` meets its contract: after i turns the first i words are copied.
-use Rattle.std.proofs.Common.{◌-◌, ◌∙◌, refl, arith}
+use Rattle.std.proofs.Common.{◌∙◌, refl, arith}
 use Rattle.base.specs.Copies.{copy_end, copy_next}
 use Rattle.tree.proofs.planning.copy_gates.Goals as goal
 

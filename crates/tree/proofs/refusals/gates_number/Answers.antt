@@ -1,7 +1,6 @@
 -- `refusals::gates_number` meets its contract: the first refusal that comes.
 use Rattle.std.proofs.Common.{ℕ, ◌∙◌, ap, sym}
 use Rattle.base.specs.Firsts.{first_found, first-none}
-use Rattle.selector.specs.FlatLaws.{one, two}
 use Rattle.selector.specs.Refusals.{constants_number, gates_number, kinds_number, lookup_number, records_number}
 use Rattle.tree.proofs.refusals.gates_number.Goals as goal
 

@@ -1,5 +1,5 @@
 -- `refusals::some_kind` meets its contract: among the gates that are left, from the present one on, there is one if there is one among all.
-use Rattle.std.proofs.Common.{◌-◌, ◌∙◌, refl, sym, arith}
+use Rattle.std.proofs.Common.{◌∙◌, refl, sym, arith}
 use Rattle.tree.proofs.RefusalsLaws.{kind_done, kind_found, kind_next}
 use Rattle.tree.proofs.refusals.some_kind.Goals as goal
 
