@@ -33,7 +33,7 @@ use Rattle.writer.specs.Hand.{handed}
 use Rattle.encoding.specs.Encoding.{intake_of, intake_words, marks_at, plan_of, plan_words, progress_in, progress_of, progressed, state_length}
 use Rattle.encoding.specs.Held.{Holds, gates_in, held_at, holds, marks_read, nodes_in, none_fault}
 use Rattle.encoding.specs.declared.held.Held.{Held}
-use Rattle.writer.specs.HandLaws.{handed_short}
+use Rattle.writer.proofs.HandLaws.{handed_short}
 use Rattle.encoding.specs.EncodingLaws.{plan_there, sound_again, state-length, state_progressed, state_written}
 use Rattle.selector.specs.Gates.{gate_slots}
 use Rattle.base.specs.Limits.{most_gates}

@@ -6,7 +6,7 @@ use Rattle.std.specs.Prelude.{true, ◌≡◌, ℕ, ◌*◌}
 use Rattle.base.specs.Tables.{table-length, table_at}
 use Rattle.labels.specs.RangesLaws.{some_row}
 use Rattle.labels.specs.Labels.{search_number, representatives_number, representatives_of, label_of}
-use Rattle.labels.specs.LabelLaws.{DistinctLabels, distinct_labels, search_cosets}
+use Rattle.labels.proofs.LabelLaws.{DistinctLabels, distinct_labels, search_cosets}
 use Rattle.selector.specs.Gates.{kind_of}
 use Rattle.tree.specs.Plan.{gates_given, plan_fault}
 use Rattle.tree.specs.declared.plan.Plan.{Plan}

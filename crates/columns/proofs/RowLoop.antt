@@ -16,8 +16,8 @@ use Rattle.pieces.specs.Records.{Read, whole, row_size, rows_of, first_fault}
 use Rattle.pieces.specs.Front.{front}
 use Rattle.pieces.specs.Rows.{Gates, gates_of, row_fault, rows_fault, marked}
 use Rattle.pieces.specs.RecordLaws.{Rest, fault_here, fault_later, read_fuel, rest_whole, rest_done, rest-front}
-use Rattle.pieces.specs.FaultLaws.{RowFine, Alike, row_good, rows_alike}
-use Rattle.pieces.specs.LineLaws.{marks_turn, marks_done}
+use Rattle.pieces.proofs.FaultLaws.{RowFine, Alike, row_good, rows_alike}
+use Rattle.pieces.proofs.LineLaws.{marks_turn, marks_done}
 use Rattle.tree.specs.Plan.{gate_rows_answer, plan_fault, plan_path}
 use Rattle.tree.specs.SoundLaws.{sound, gate-words, gates-many}
 use Rattle.tree.specs.declared.gate_rows.GateRows.{GateRows}

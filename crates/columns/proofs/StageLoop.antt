@@ -16,9 +16,9 @@ use Rattle.pieces.specs.Writing.{put, padded, put_lines}
 use Rattle.pieces.specs.WriteLaws.{padded-length}
 use Rattle.pieces.specs.Rows.{Gates, row_fault, rows_fault, row_lines}
 use Rattle.pieces.specs.RecordLaws.{Rest, Going, rest_begin, rest_whole, read_fuel, fault_head, going}
-use Rattle.pieces.specs.FaultLaws.{row_cut, row_fine, rows_room}
-use Rattle.pieces.specs.ClosedForms.{lines-append, lines-many}
-use Rattle.pieces.specs.LineLaws.{lines_through, rows_done}
+use Rattle.pieces.proofs.FaultLaws.{row_cut, row_fine, rows_room}
+use Rattle.pieces.proofs.ClosedForms.{lines-append, lines-many}
+use Rattle.pieces.proofs.LineLaws.{lines_through, rows_done}
 use Rattle.base.specs.Digits.{Spelled}
 use Rattle.columns.specs.Lines.{cut_lines, lines-padded}
 use Rattle.columns.specs.Placed.{Spells, Stageable, Stages}

@@ -10,7 +10,7 @@ use Rattle.pieces.specs.Records.{Read, whole, table_size, read_by, tables_of}
 use Rattle.pieces.specs.Writing.{put_lines}
 use Rattle.pieces.specs.Tables.{Stack, stack_next, table_fault, tables_fault, entries, table_lines, sum_rows}
 use Rattle.pieces.specs.RecordLaws.{Rest, rest_begin, rest_done, Going}
-use Rattle.pieces.specs.LineLaws.{tables_turn, sum_turn, tables_done, sum_done}
+use Rattle.pieces.proofs.LineLaws.{tables_turn, sum_turn, tables_done, sum_done}
 use Rattle.columns.specs.Stacked.{stack}
 
 module _ (width trace count high : ℕ) (piece tables₀ : List ℕ) where

@@ -26,10 +26,10 @@ use Rattle.pieces.specs.Tables.{table_lines, tables_fault, tables_number, tables
 use Rattle.pieces.specs.Finishing.{complete, all_used, scratch_fine, finish_number}
 use Rattle.pieces.specs.Calls.{Call, rows, s_words, cell_words, table_words, number, taken, after, run}
 use Rattle.pieces.specs.WriteLaws.{put-length, lines-length}
-use Rattle.pieces.specs.LineLaws.{sum_done}
+use Rattle.pieces.proofs.LineLaws.{sum_done}
 use Rattle.pieces.specs.CellLaws.{run_copies, cells_room}
-use Rattle.pieces.specs.FaultLaws.{rows_room, words_room, tables_room, no_tables}
-use Rattle.pieces.specs.ClosedForms.{cleared-long}
+use Rattle.pieces.proofs.FaultLaws.{rows_room, words_room, tables_room, no_tables}
+use Rattle.pieces.proofs.ClosedForms.{cleared-long}
 use Rattle.columns.specs.Intake.{setting_of}
 use Rattle.columns.specs.IntakeLaws.{open_19, open_10, open_own}
 use Rattle.columns.specs.Sections.{first_refusal, sections, pieces_fault, after_pieces, last_tests, finish_tested, sections_number, contents_number}

@@ -23,7 +23,7 @@ use Rattle.tree.specs.PlanLaws.{zero_fault}
 use Rattle.tree.specs.declared.plan.Plan.{Plan}
 use Rattle.columns.specs.Intake.{zero_intake}
 use Rattle.writer.specs.Hand.{handed}
-use Rattle.writer.specs.HandLaws.{handed-long, handed_short, handed_whole}
+use Rattle.writer.proofs.HandLaws.{handed-long, handed_short, handed_whole}
 use Rattle.writer.specs.Put.{put, put_if}
 use Rattle.writer.specs.PutLaws.{put_fits}
 use Rattle.encoding.specs.Encoding.{count_at, counts_from, counts_length, gates_from, head_words, intake_at, intake_of, intake_words, lookup_fits, lookup_there, marks_at, nodes_from, phase_at, plan_at, plan_length, plan_of, plan_words, progress_length, progress_of, progress_words, progressed, state_length, tail_from, tail_length, tail_words, used_from}

@@ -1,3 +1,5 @@
 -- Laws that only the proofs of this crate use.
 pub mod Product
 pub mod Wide
+pub mod Numerals
+pub mod FieldLaws

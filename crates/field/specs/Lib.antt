@@ -1,4 +1,2 @@
 -- 01, 'Field': its definitions, and the laws that the layers above cite.
 pub mod Field
-pub mod Numerals
-pub mod FieldLaws

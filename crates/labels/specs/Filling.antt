@@ -12,7 +12,7 @@ use Rattle.std.proofs.Math.Arith.{digits_mod, digits_div}
 use Rattle.base.specs.Modular.{mod-mul, mul-mod, same_right, minus_one}
 use Rattle.base.specs.Roots.{Root}
 use Rattle.base.specs.Fills.{Filled, filled_join, filled_same}
-use Rattle.field.specs.FieldLaws.{domain_root}
+use Rattle.field.proofs.FieldLaws.{domain_root}
 use Rattle.field.specs.Field.{p, fsub, fmul, fpow}
 use Rattle.base.specs.Exponent.{exponent}
 use Rattle.labels.specs.Ranges.{most_columns}

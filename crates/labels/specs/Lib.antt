@@ -4,6 +4,5 @@ pub mod Ranges
 pub mod RangesLaws
 pub mod Labels
 pub mod Numerals
-pub mod Search
+pub mod Stored
 pub mod Filling
-pub mod LabelLaws

@@ -10,7 +10,7 @@ use Rattle.base.specs.Exponent.{exponent_from}
 use Rattle.base.specs.Powers.{fast}
 use Rattle.base.specs.Tables.{table}
 use Rattle.field.specs.Field.{p, fmul, fpow, is_non_residue, squared}
-use Rattle.field.specs.Numerals.{power, generator_is}
+use Rattle.field.proofs.Numerals.{power, generator_is}
 use Rattle.labels.specs.Ranges.{ranges_fit}
 use Rattle.labels.specs.Labels.{Columns, absent, tried, search_from, found, first_column, taken_from, powers_taken, search_number, column_words, representatives_number, representatives_of, powers_of, taken_of, domain_generator, label_of}
 

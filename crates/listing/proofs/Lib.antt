@@ -1,1 +1,3 @@
 mod Moves
+pub mod ReaderLaws
+pub mod Worked

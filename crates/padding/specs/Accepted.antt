@@ -22,7 +22,7 @@ use Rattle.parameters.specs.Parameters.{parameters_at}
 use Rattle.pieces.specs.SWords.{s_word_fault, s_words_fault}
 use Rattle.pieces.specs.Cells.{placeholder, index_of, cell_fault, cells_fault}
 use Rattle.pieces.specs.Finishing.{complete, all_used}
-use Rattle.pieces.specs.FaultLaws.{row_good, word_fine}
+use Rattle.pieces.proofs.FaultLaws.{row_good, word_fine}
 use Rattle.columns.specs.Sections.{contents_number, unpadded_number, unpadded_last, pieces_fault, after_pieces}
 use Rattle.listing.specs.Listing.{Words}
 use Rattle.listing.specs.Written.{Sound}

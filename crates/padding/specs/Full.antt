@@ -25,7 +25,7 @@ use Rattle.stage.specs.Listed.{listed_answer, listed_left, listed_whole}
 use Rattle.stage.specs.Accepted.{given, listed_right}
 use Rattle.stage.specs.declared.circuit.Staged.{Staged}
 use Rattle.writer.specs.Hand.{hand_answer}
-use Rattle.writer.specs.HandLaws.{answer_other, answer-zero}
+use Rattle.writer.proofs.HandLaws.{answer_other, answer-zero}
 use Rattle.padding.specs.Padding.{length_of, with_trace, padded_setting, padded, pad_number, pad_by, pad_left_by, pad_answer, pad_left}
 use Rattle.padding.specs.PaddingLaws.{Good, good, plan_fine, first_replaced}
 use Rattle.padding.specs.Kept.{padded-read}

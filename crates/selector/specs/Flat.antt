@@ -6,7 +6,7 @@ use Rattle.std.specs.Prelude.{◌*◌, ◌+◌, ◌<◌, ◌≤◌, suc, zero, �
 use Rattle.std.proofs.Math.Option.{Option, none, some}
 use Rattle.base.specs.Pick.{pick}
 use Rattle.selector.specs.Gates.{gate_words}
-use Rattle.selector.specs.GrowthLaws.{In, Once}
+use Rattle.selector.specs.Leaves.{In, Once}
 use Rattle.selector.specs.Nodes.{gate_at, left_at, most_levels, most_nodes, put, right_at}
 use Rattle.selector.specs.Inner.{depth, Holds}
 use Rattle.selector.specs.Tree.{Tree, size}

@@ -13,7 +13,7 @@ use native.Mathlib.Omega.{arith}
 use Rattle.base.specs.Pick.{pick}
 use Rattle.selector.specs.Flat.{Fine, Placed, offer_fork, offer_leaf, offer_node, or_else, placed, split_flat}
 use Rattle.selector.specs.Gates.{gate_words}
-use Rattle.selector.specs.GrowthLaws.{In, Once}
+use Rattle.selector.specs.Leaves.{In, Once}
 use Rattle.selector.specs.NodeLaws.{length-put, put_gate, put_gate_other, put-left, put-left_other, put_right, put_right_other}
 use Rattle.selector.specs.Inner.{Holds}
 use Rattle.selector.specs.Nodes.{gate_at, left_at, most_nodes, node_size, put, right_at}

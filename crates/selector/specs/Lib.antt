@@ -10,15 +10,10 @@ pub mod MadeUp
 pub mod Examples
 pub mod Inner
 pub mod SortLaws
-pub mod RecordLaws
-pub mod GrowthLaws
-pub mod SearchLaws
+pub mod Leaves
 pub mod NodeLaws
-pub mod MadeUpLaws
 pub mod PathLaws
 pub mod MarkerLaws
 pub mod Flat
 pub mod FlatLaws
-pub mod RunLaws
 pub mod Walk
-pub mod WalkLaws

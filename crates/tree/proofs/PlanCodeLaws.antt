@@ -16,7 +16,7 @@ use Rattle.base.specs.Pick.{pick}
 use Rattle.base.specs.Tables.{table, table_at, table-length}
 use Rattle.selector.specs.Gates.{constants_of, gate_words, kind_of}
 use Rattle.selector.specs.MadeUp.{wanted}
-use Rattle.selector.specs.MadeUpLaws.{wanted_few}
+use Rattle.selector.proofs.MadeUpLaws.{wanted_few}
 use Rattle.selector.specs.MarkerLaws.{ends_same, noughts_bits}
 use Rattle.selector.specs.Markers.{marker_ends, noughts}
 use Rattle.selector.specs.Nodes.{most_levels, tree_at}

@@ -24,9 +24,9 @@ use Rattle.selector.specs.Inner.{Distinct, Listed}
 use Rattle.selector.specs.Gates.{constants_of, degree_at, degree_of, gate_words, kind_of, placed_gates, sorted, top_constants, top_degree}
 use Rattle.selector.specs.NodeLaws.{length-put, put_gate, put-left, put_right}
 use Rattle.selector.specs.Nodes.{gate_at, left_at, most_levels, node_size, node_slots, put, right_at}
-use Rattle.selector.specs.RunLaws.{flat_grows}
+use Rattle.selector.proofs.RunLaws.{flat_grows}
 use Rattle.selector.specs.Search.{extra_levels, factor_of, first_bound, first_target, may_stand, or_tree, plan_tree, search_tree, targets, tree_within}
-use Rattle.selector.specs.SearchLaws.{nothing_deeper}
+use Rattle.selector.proofs.SearchLaws.{nothing_deeper}
 use Rattle.selector.specs.SortLaws.{distinct_placed, distinct_sorted, listed_placed, listed_sorted}
 use Rattle.selector.specs.Tree.{Tree, grown, leaf}
 

@@ -2,7 +2,7 @@
 --
 -- Main definitions: `walked`, `Room`, `Done`.
 use Rattle.std.specs.Prelude.{◌+◌, ◌<◌, ◌≤◌, max, ℕ, List, ◌≡◌}
-use Rattle.selector.specs.GrowthLaws.{In}
+use Rattle.selector.specs.Leaves.{In}
 use Rattle.selector.specs.Nodes.{laid, most_nodes}
 use Rattle.selector.specs.Search.{constants_over, degree_over}
 use Rattle.selector.specs.Inner.{depth, Holds}

@@ -12,15 +12,15 @@ use Rattle.base.specs.Firsts.{first_found, first-none, first-zero}
 use Rattle.base.specs.Pick.{pick, pick_no, pick-zero}
 use Rattle.selector.specs.Gates.{gate_slots, gate_words, placed_gates, top_constants}
 use Rattle.selector.specs.MadeUp.{nodes_fit}
-use Rattle.selector.specs.MadeUpLaws.{Sturdy, own_passes, sturdy}
+use Rattle.selector.proofs.MadeUpLaws.{Sturdy, own_passes, sturdy}
 use Rattle.selector.specs.NodeLaws.{laid-length, size-some}
 use Rattle.selector.specs.Nodes.{node_slots, node_words}
-use Rattle.selector.specs.RecordLaws.{gates_sound, words-fit}
+use Rattle.selector.proofs.RecordLaws.{gates_sound, words-fit}
 use Rattle.base.specs.Limits.{most_gates}
 use Rattle.selector.specs.Inner.{Sound}
 use Rattle.selector.specs.Refusals.{extra_of, count_of_gates, gates_number, words_fit}
 use Rattle.selector.specs.Search.{bounds, plan_tree, search_tree}
-use Rattle.selector.specs.SearchLaws.{search_facts}
+use Rattle.selector.proofs.SearchLaws.{search_facts}
 use Rattle.selector.specs.Tree.{Tree, leaf}
 use Rattle.parameters.specs.Lookup.{mode_of}
 use Rattle.parameters.specs.Parameters.{flag_number, lookup_of, parameters_number, range_number}

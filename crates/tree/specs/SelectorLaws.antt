@@ -6,7 +6,7 @@ use Rattle.std.proofs.Common.{eq-eqb, lt-ltb, ltb-false, ltb-true, ◌∙◌, ar
 use Rattle.base.specs.Pick.{pick}
 use Rattle.selector.specs.Gates.{kind_of}
 use Rattle.selector.specs.MadeUp.{wanted}
-use Rattle.selector.specs.MadeUpLaws.{Sturdy, unwanted, wanted_few}
+use Rattle.selector.proofs.MadeUpLaws.{Sturdy, unwanted, wanted_few}
 use Rattle.selector.specs.PathLaws.{only_path}
 use Rattle.selector.specs.Paths.{a_path, no_selector}
 use Rattle.selector.specs.Tree.{standing}

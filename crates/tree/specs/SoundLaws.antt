@@ -17,13 +17,13 @@ use Rattle.labels.specs.RangesLaws.{Ranges, ranges-fit}
 use Rattle.selector.specs.Gates.{gate_words, kind_of}
 use Rattle.selector.specs.Inner.{Sound as Records}
 use Rattle.selector.specs.MadeUp.{wanted}
-use Rattle.selector.specs.MadeUpLaws.{Sturdy, tree-constants, unwanted_bare}
+use Rattle.selector.proofs.MadeUpLaws.{Sturdy, tree-constants, unwanted_bare}
 use Rattle.selector.specs.MarkerLaws.{ends_some, parted_noughts}
 use Rattle.selector.specs.Markers.{marker_ends, noughts}
 use Rattle.selector.specs.Nodes.{most_levels, tree_at}
 use Rattle.selector.specs.PathLaws.{Parted, bits_digits, path_cases, path_digits, path_fits, path_none, path_some, pathless, paths_parted, selected-steps, unlisted_path}
 use Rattle.selector.specs.Paths.{Selector, a_path, no_selector, or_empty, path_of, path_to, selected, steps, unknown_gate}
-use Rattle.selector.specs.RecordLaws.{gates_sound}
+use Rattle.selector.proofs.RecordLaws.{gates_sound}
 use Rattle.selector.specs.Refusals.{gates_number, records_number}
 use Rattle.selector.specs.Tree.{Tree}
 use Rattle.parameters.specs.Lookup.{mode_of, width_of}

@@ -2,7 +2,6 @@
 pub mod Put
 pub mod PutLaws
 pub mod Hand
-pub mod HandLaws
 pub mod Besides
 pub mod BesidesLaws
 mod Examples

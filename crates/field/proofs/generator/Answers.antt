@@ -1,6 +1,6 @@
 -- `field::generator` meets its contract.
 use Rattle.std.proofs.Common.{sym}
-use Rattle.field.specs.Numerals.{generator_is}
+use Rattle.field.proofs.Numerals.{generator_is}
 use Rattle.field.proofs.generator.Goals as goal
 
 pub returns : goal.returns

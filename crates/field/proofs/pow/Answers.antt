@@ -4,7 +4,7 @@ use Rattle.std.proofs.Math.Nat.{pow-zero, mod-mod}
 use Rattle.base.specs.Modular.{same_turn}
 use Rattle.base.specs.Powers.{pow-one, square_turn}
 use Rattle.field.specs.Field.{p, fmul, fpow}
-use Rattle.field.specs.FieldLaws.{fmul_below}
+use Rattle.field.proofs.FieldLaws.{fmul_below}
 use Rattle.field.proofs.pow.Goals.{then-e-eq1, else-e-eq1}
 use Rattle.field.proofs.pow.Goals as goal
 

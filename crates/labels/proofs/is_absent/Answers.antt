@@ -1,6 +1,6 @@
 -- `labels::is_absent` meets its contract. The invariant: whether x is absent is what is left to find out of the words from i on.
 use Rattle.std.proofs.Common.{rules, eq-eqb, ne_eqb, refl, sym, ◌∙◌, ◌-◌, arith, get_or}
-use Rattle.labels.specs.Search.{absent-end, absent_step}
+use Rattle.labels.proofs.Search.{absent-end, absent_step}
 use Rattle.labels.proofs.is_absent.Goals as goal
 
 pub loop-i-init : goal.loop-i-init

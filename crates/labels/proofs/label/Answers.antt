@@ -4,7 +4,7 @@ use Rattle.field.specs.Field.{fmul, fpow}
 use Rattle.labels.specs.Ranges.{ranges_fit}
 use Rattle.labels.specs.RangesLaws.{Ranges, ranges-fit, some_row, cells_fit}
 use Rattle.labels.specs.Labels.{representatives_of, label_of, label_number, label_answer}
-use Rattle.labels.specs.LabelLaws.{label-number, label_accepted, label_refused}
+use Rattle.labels.proofs.LabelLaws.{label-number, label_accepted, label_refused}
 use Rattle.labels.proofs.label.Goals as goal
 
 pub overflow_mul-c : goal.overflow_mul-c

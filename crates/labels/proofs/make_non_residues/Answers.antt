@@ -4,7 +4,8 @@ use Rattle.std.proofs.Common.{◌≡◌, refl, sym, ap, ◌∙◌, ℕ, ◌+◌,
 use Rattle.field.specs.Field.{p, fpow, is_non_residue}
 use Rattle.labels.specs.declared.NonResidues.{NonResidues}
 use Rattle.labels.specs.Labels.{Columns, first_column, tried, search_from, found, taken_one, taken_from, powers_taken}
-use Rattle.labels.specs.Search.{stored, first_chosen, tried_chosen, search_stop, search_out, search_next, taken_stop, taken_out, taken_next, one_most}
+use Rattle.labels.specs.Stored.{stored}
+use Rattle.labels.proofs.Search.{first_chosen, tried_chosen, search_stop, search_out, search_next, taken_stop, taken_out, taken_next, one_most}
 use Rattle.labels.proofs.make_non_residues.Invariants.{Searching}
 use Rattle.labels.proofs.make_non_residues.Goals as goal
 

@@ -4,7 +4,8 @@ use Rattle.std.proofs.Common.{◌≡◌, ℕ, ◌+◌, ◌-◌, ◌≤◌}
 use Rattle.field.specs.Field.{p, fpow, is_non_residue}
 use Rattle.labels.specs.declared.NonResidues.{NonResidues}
 use Rattle.labels.specs.Labels.{Columns, search_from, found, taken_from, powers_taken}
-use Rattle.labels.specs.Search.{stored, Chosen}
+use Rattle.labels.specs.Stored.{stored}
+use Rattle.labels.proofs.Search.{Chosen}
 use Rattle.labels.proofs.make_non_residues.Given as goal
 
 pub record Searching (n c k : ℕ) (f : NonResidues) : Type 0 where

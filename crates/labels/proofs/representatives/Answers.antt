@@ -6,7 +6,7 @@ use Rattle.labels.specs.Refusals.{out_of_range, candidates_reach_p}
 use Rattle.labels.specs.Ranges.{ranges_fit}
 use Rattle.labels.specs.RangesLaws.{ranges-fit}
 use Rattle.labels.specs.Labels.{found, powers_taken, search_number, representatives_number, representatives_of, powers_of, taken_of}
-use Rattle.labels.specs.Search.{stored, no_representatives}
+use Rattle.labels.specs.Stored.{stored, no_representatives}
 use Rattle.labels.proofs.representatives.Goals as goal
 
 -- what is promised of an answer

@@ -1,6 +1,6 @@
 -- `listed::short_plan` meets its contract: what the reader of listings says, by the places that it answers.
 use Rattle.std.proofs.Common.{◌∙◌, ap, sym}
-use Rattle.listing.specs.ReaderLaws.{read_refused, read_whole}
+use Rattle.listing.proofs.ReaderLaws.{read_refused, read_whole}
 use Rattle.capi.specs.Listed.{short_plan}
 use Rattle.capi.proofs.listed.short_plan.Goals as goal
 

@@ -1,7 +1,7 @@
 -- `opening::open_parts` meets its contract: 19, 10, 9, then labels written and all other named words zeroed.
 use Rattle.std.proofs.Common.{ℕ, ◌*◌, ◌≤◌, le-leb, length, true, List, ◌≡◌, sym, ap, ◌∙◌, arith}
 use Rattle.base.specs.Pick.{pick}
-use Rattle.labels.specs.LabelLaws.{written_refused, written_is}
+use Rattle.labels.proofs.LabelLaws.{written_refused, written_is}
 use Rattle.labels.specs.Labels.{search_number, fill_number}
 use Rattle.labels.specs.Ranges.{ranges_fit}
 use Rattle.tree.specs.Plan.{plan_fault, plan_in}

@@ -5,7 +5,7 @@ use Rattle.pieces.specs.Records.{whole, row_size, all_below}
 use Rattle.pieces.specs.Front.{front}
 use Rattle.pieces.specs.Rows.{row_fault}
 use Rattle.pieces.specs.RecordLaws.{front_short, front_cut, front_whole}
-use Rattle.pieces.specs.FaultLaws.{row_cut, row_barred, row_large, row_past, row_good, front_unknown, front_long}
+use Rattle.pieces.proofs.FaultLaws.{row_cut, row_barred, row_large, row_past, row_good, front_unknown, front_long}
 use Rattle.columns.specs.Placed.{gates_by}
 use Rattle.columns.proofs.row_tests.row_fault.Goals as goal
 

@@ -4,7 +4,7 @@ use Rattle.pieces.specs.Records.{cut, row_size}
 use Rattle.pieces.specs.Front.{front}
 use Rattle.pieces.specs.Rows.{Gates, row_fault}
 use Rattle.pieces.specs.RecordLaws.{uncut}
-use Rattle.pieces.specs.FaultLaws.{RowFine, row_cut, row_fine}
+use Rattle.pieces.proofs.FaultLaws.{RowFine, row_cut, row_fine}
 use Rattle.columns.specs.Placed.{gates_by}
 use Rattle.columns.proofs.Parts.{rest_is}
 use Rattle.columns.proofs.RowLoop.{passed_none, passed-next, passed-found, passed_fine, passed_count, passed_marks}

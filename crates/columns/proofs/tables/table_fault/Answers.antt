@@ -5,7 +5,7 @@ use Rattle.pieces.specs.Records.{whole, table_size, all_below}
 use Rattle.pieces.specs.Front.{front}
 use Rattle.pieces.specs.Tables.{table_fault}
 use Rattle.pieces.specs.RecordLaws.{front_short, front_cut, front_whole}
-use Rattle.pieces.specs.FaultLaws.{table-cut, table_mode, table-front, table_width, table-count, table_past, table_large, table_good}
+use Rattle.pieces.proofs.FaultLaws.{table-cut, table_mode, table-front, table_width, table-count, table_past, table_large, table_good}
 use Rattle.columns.specs.Stacked.{stack}
 use Rattle.columns.proofs.tables.table_fault.Goals as goal
 

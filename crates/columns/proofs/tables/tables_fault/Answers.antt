@@ -4,7 +4,7 @@ use Rattle.pieces.specs.Records.{whole, cut, table_size, tables_of}
 use Rattle.pieces.specs.Front.{front}
 use Rattle.pieces.specs.Tables.{Stack, stack_next, table_fault}
 use Rattle.pieces.specs.RecordLaws.{Uncut, uncut, Looking, looking_begin, looking_done, looking-found, looking-next}
-use Rattle.pieces.specs.FaultLaws.{table-cut, table_fine}
+use Rattle.pieces.proofs.FaultLaws.{table-cut, table_fine}
 use Rattle.columns.specs.Stacked.{stack}
 use Rattle.columns.proofs.Parts.{rest_is}
 use Rattle.columns.proofs.tables.tables_fault.Goals as goal

@@ -4,7 +4,7 @@ use Rattle.std.proofs.lemmas.List.{get_or_at}
 use Rattle.pieces.specs.Writing.{put, padded, put_lines}
 use Rattle.pieces.specs.WriteLaws.{padded-length, padded-take}
 use Rattle.pieces.specs.Tables.{entries}
-use Rattle.pieces.specs.ClosedForms.{entries-many}
+use Rattle.pieces.proofs.ClosedForms.{entries-many}
 use Rattle.columns.specs.Lines.{cut_lines, column_of, lines-column, lines-padded}
 use Rattle.columns.proofs.tables.write_table.Goals as goal
 

@@ -3,7 +3,7 @@ use Rattle.std.proofs.Common.{◌≡◌, ap, arith, ℕ, ◌+◌, ◌-◌, ◌*�
 use Rattle.pieces.specs.Records.{cut, table_size}
 use Rattle.pieces.specs.Tables.{stack_next, table_fault}
 use Rattle.pieces.specs.RecordLaws.{Going, going}
-use Rattle.pieces.specs.FaultLaws.{table-cut, table_fine}
+use Rattle.pieces.proofs.FaultLaws.{table-cut, table_fine}
 use Rattle.columns.specs.Stacked.{stack}
 use Rattle.columns.proofs.Parts.{part_is, part_length}
 use Rattle.columns.proofs.TableLoop.{stacking_begin, stacking_next, stacking_count, stacking_high, stacking_lines}

@@ -9,7 +9,7 @@ use Rattle.columns.specs.Given.{given_of, intake_in}
 use Rattle.columns.specs.GivenLaws.{small}
 use Rattle.columns.specs.declared.intake.Intake.{Intake}
 use Rattle.pieces.specs.SWords.{s_words_number, s_words_written}
-use Rattle.pieces.specs.FaultLaws.{words_room}
+use Rattle.pieces.proofs.FaultLaws.{words_room}
 use Rattle.columns.specs.IntakeLaws.{plan_fine, words_19, words_10, words_own, words_refused, words-taken}
 use Rattle.columns.proofs.take.take_s_words.Goals.{After-s_words_fault-fault, Else-fault-ne0, Start}
 use Rattle.columns.proofs.take.take_s_words.Goals as goal

@@ -12,8 +12,8 @@ use Rattle.base.specs.Pick.{pick}
 use Rattle.parameters.specs.Lookup.{mode_of, width_of}
 use Rattle.pieces.specs.Records.{tables_of}
 use Rattle.pieces.specs.Tables.{tables_fault, tables_number, tables_written, tables_state, stack_of}
-use Rattle.pieces.specs.FaultLaws.{no_tables}
-use Rattle.pieces.specs.LineLaws.{tables_done, sum_done}
+use Rattle.pieces.proofs.FaultLaws.{no_tables}
+use Rattle.pieces.proofs.LineLaws.{tables_done, sum_done}
 use Rattle.columns.specs.declared.intake.Taken.{Taken}
 use Rattle.columns.specs.IntakeLaws.{plan_fine, tables_19, tables_10, tables_own, tables_refused, tables-taken}
 use Rattle.columns.proofs.take.take_tables.Goals.{After-tables_fault-fault, Start}

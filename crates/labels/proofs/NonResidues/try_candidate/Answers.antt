@@ -3,7 +3,8 @@ use Rattle.std.proofs.Common.{rules, ◌≡◌, sym, ap, ◌∙◌, true, false,
 use Rattle.field.specs.Field.{fpow, is_non_residue}
 use Rattle.labels.specs.Labels.{Columns, absent}
 use Rattle.labels.specs.Ranges.{most_columns}
-use Rattle.labels.specs.Search.{stored, held_powers, held-taken, held_next, tried-kept, tried_coset, tried_residue}
+use Rattle.labels.specs.Stored.{stored}
+use Rattle.labels.proofs.Search.{held_powers, held-taken, held_next, tried-kept, tried_coset, tried_residue}
 use Rattle.labels.proofs.NonResidues.try_candidate.Goals as goal
 
 pub slice_bounds-powers-end : goal.slice_bounds-powers-end

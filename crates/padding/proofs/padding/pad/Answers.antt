@@ -1,7 +1,7 @@
 -- `padding::pad` meets its contract: the reader's refusal, or the circuit of the words that the reader gives.
 use Rattle.std.proofs.Common.{sym, ap, ◌∙◌}
 use Rattle.listing.specs.Listing.{Reading}
-use Rattle.listing.specs.ReaderLaws.{read_whole, read_refused}
+use Rattle.listing.proofs.ReaderLaws.{read_whole, read_refused}
 use Rattle.padding.specs.Padding.{pad_by, pad_left_by, pad_answer, pad_left}
 use Rattle.padding.specs.PaddingLaws.{wrote_is}
 use Rattle.padding.proofs.padding.pad.Goals as goal

@@ -7,7 +7,7 @@ use Rattle.pieces.specs.RecordLaws.{Whole}
 use Rattle.listing.specs.Listing.{Words}
 use Rattle.listing.specs.Places.{words_at}
 use Rattle.listing.specs.Written.{written, Sound, read_sound}
-use Rattle.writer.specs.HandLaws.{answer-given, answer_refused, answer_short, hand_given, hand_refused, hand_short, handed-long}
+use Rattle.writer.proofs.HandLaws.{answer-given, answer_refused, answer_short, hand_given, hand_refused, hand_short, handed-long}
 use Rattle.writer.specs.Put.{put}
 use Rattle.writer.specs.PutLaws.{put_front}
 use Rattle.padding.specs.Padding.{length_of, filler_of, padded, pad_number}

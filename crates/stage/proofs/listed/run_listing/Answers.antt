@@ -2,7 +2,7 @@
 use Rattle.std.proofs.Common.{sym, ◌∙◌}
 use Rattle.columns.specs.Intake.{store_of}
 use Rattle.listing.specs.Places.{words_at}
-use Rattle.listing.specs.ReaderLaws.{read_whole, read_refused}
+use Rattle.listing.proofs.ReaderLaws.{read_whole, read_refused}
 use Rattle.stage.specs.Listed.{listed_whole, listed_refused}
 use Rattle.stage.proofs.listed.run_listing.Goals as goal
 

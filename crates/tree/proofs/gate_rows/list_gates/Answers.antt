@@ -3,7 +3,7 @@ use Rattle.std.proofs.Common.{◌*◌, ◌-◌, ◌≤◌, ℕ, ◌≡◌, ap, m
 use Rattle.base.specs.Fills.{filled_next, filled_none}
 use Rattle.selector.specs.Gates.{constants_of}
 use Rattle.selector.specs.MadeUp.{wanted}
-use Rattle.selector.specs.MadeUpLaws.{wanted_few}
+use Rattle.selector.proofs.MadeUpLaws.{wanted_few}
 use Rattle.tree.proofs.gate_rows.list_gates.Goals as goal
 
 pub loop-g-init : goal.loop-g-init

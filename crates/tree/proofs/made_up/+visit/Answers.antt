@@ -2,7 +2,7 @@
 -- walked where the left side was fine. The levels fall.
 use Rattle.std.proofs.Common.{true, refl, arith}
 use Rattle.selector.specs.Walk.{lost}
-use Rattle.selector.specs.WalkLaws.{visit_go, visit_leaf, visit_none, visit_stop}
+use Rattle.selector.proofs.WalkLaws.{visit_go, visit_leaf, visit_none, visit_stop}
 use Rattle.tree.specs.Walks.{walk}
 use Rattle.tree.proofs.made_up.+visit.Goals as goal
 

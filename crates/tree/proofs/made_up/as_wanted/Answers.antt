@@ -2,7 +2,7 @@
 use Rattle.std.proofs.Common.{◌+◌, ◌-◌, ℕ, eq-eqb, ne_eqb, eqb, get_or, ◌∙◌, ◌≡◌, ap, sym, arith}
 use Rattle.base.specs.Pick.{pick_no, pick_yes}
 use Rattle.selector.specs.MadeUp.{as_wanted, wanted}
-use Rattle.selector.specs.WalkLaws.{wanted_begin, wanted-end, wanted_step}
+use Rattle.selector.proofs.WalkLaws.{wanted_begin, wanted-end, wanted_step}
 use Rattle.tree.proofs.made_up.as_wanted.Goals as goal
 
 pub loop-g-init : goal.loop-g-init

@@ -2,7 +2,7 @@
 use Rattle.std.proofs.Common.{◌+◌, ◌-◌, ℕ, ◌∙◌, ◌≡◌, ap, sym, arith}
 use Rattle.base.specs.Pick.{pick_no, pick_yes}
 use Rattle.selector.specs.MadeUp.{linked_at, linked_from}
-use Rattle.selector.specs.MadeUpLaws.{linked_begin, linked_end, linked_step}
+use Rattle.selector.proofs.MadeUpLaws.{linked_begin, linked_end, linked_step}
 use Rattle.tree.proofs.made_up.linked.Goals as goal
 
 pub loop-i-init : goal.loop-i-init

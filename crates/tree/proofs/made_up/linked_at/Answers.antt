@@ -1,7 +1,7 @@
 -- `made_up::linked_at` meets its contract: its tests are the definition's.
 use Rattle.std.proofs.Common.{◌<◌, ◌≤◌, ℕ, le-ltb, lt-ltb, ne_eqb, false, List, ◌≡◌, sym}
 use Rattle.selector.specs.MadeUp.{linked_at}
-use Rattle.selector.specs.MadeUpLaws.{linked_in, linked_leaf}
+use Rattle.selector.proofs.MadeUpLaws.{linked_in, linked_leaf}
 use Rattle.selector.specs.Nodes.{left_at, right_at}
 use Rattle.tree.proofs.made_up.linked_at.Goals as goal
 

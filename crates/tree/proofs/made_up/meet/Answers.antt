@@ -1,7 +1,7 @@
 -- `made_up::meet` meets its contract: its tests are the definition's.
 use Rattle.std.proofs.Common.{◌+◌, max, ℕ, true, List, ◌≡◌, ◌∙◌, ap, sym, arith, length, get_or, set, length-set, get_or-set_same, get_or-set_other}
-use Rattle.selector.specs.RecordLaws.{constants-small, degree_small}
-use Rattle.selector.specs.WalkLaws.{meet_far, meet-new, meet_twice}
+use Rattle.selector.proofs.RecordLaws.{constants-small, degree_small}
+use Rattle.selector.proofs.WalkLaws.{meet_far, meet-new, meet_twice}
 use Rattle.tree.specs.Walks.{walk, Most}
 use Rattle.tree.proofs.made_up.meet.Goals as goal
 

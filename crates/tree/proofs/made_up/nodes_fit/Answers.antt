@@ -2,8 +2,8 @@
 use Rattle.std.proofs.Common.{ℕ, get_or, false, ◌∙◌, refl, sym, arith}
 use Rattle.base.specs.Pick.{pick_no, pick_yes}
 use Rattle.selector.specs.MadeUp.{as_wanted, numbers_are}
-use Rattle.selector.specs.MadeUpLaws.{links}
-use Rattle.selector.specs.WalkLaws.{fit_by, fit_many, fit_none, fit_unlinked}
+use Rattle.selector.proofs.MadeUpLaws.{links}
+use Rattle.selector.proofs.WalkLaws.{fit_by, fit_many, fit_none, fit_unlinked}
 use Rattle.tree.specs.Walks.{walk}
 use Rattle.tree.proofs.made_up.nodes_fit.Goals as goal
 

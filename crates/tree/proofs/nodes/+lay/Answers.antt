@@ -1,7 +1,7 @@
 -- `nodes::lay` meets its contract, which speaks of every tree that stands at the node: a leaf is written, a fork lays out its left side from the next
 -- node on and its right side behind that. The levels fall.
 use Rattle.std.proofs.Common.{◌+◌, max, ℕ, ◌∙◌, ap, arith}
-use Rattle.selector.specs.RecordLaws.{constants-small}
+use Rattle.selector.proofs.RecordLaws.{constants-small}
 use Rattle.tree.proofs.NodesLaws.{done_fork, done_leaf, room_gate, room_here, room_left, room_level, room_next, room_right, sides}
 use Rattle.tree.specs.declared.nodes.Stats.{Stats}
 use Rattle.tree.proofs.nodes.+lay.Goals as goal

@@ -5,7 +5,7 @@ use Rattle.base.specs.Pick.{pick}
 use Rattle.selector.specs.Gates.{gate_words}
 use Rattle.selector.specs.MadeUp.{nodes_fit}
 use Rattle.selector.specs.Nodes.{node_slots}
-use Rattle.selector.specs.RecordLaws.{gates_sound}
+use Rattle.selector.proofs.RecordLaws.{gates_sound}
 use Rattle.base.specs.Limits.{most_gates}
 use Rattle.selector.specs.Refusals.{extra_of, gates_number}
 use Rattle.parameters.specs.Parameters.{parameters_number}

@@ -1,7 +1,7 @@
 -- `planning::words_number` meets its contract: the first refusal that comes.
 use Rattle.std.proofs.Common.{◌∙◌, sym, arith}
 use Rattle.base.specs.Firsts.{first_found, first-none}
-use Rattle.selector.specs.RecordLaws.{words-fit}
+use Rattle.selector.proofs.RecordLaws.{words-fit}
 use Rattle.parameters.specs.Parameters.{parameters_number}
 use Rattle.tree.specs.Plan.{words_number}
 use Rattle.tree.proofs.planning.words_number.Goals as goal

@@ -2,7 +2,7 @@
 use Rattle.std.proofs.Common.{◌-◌, ◌≤◌, ◌∙◌, ap, refl, arith}
 use Rattle.base.specs.Limits.{most_gates}
 use Rattle.base.specs.Exponent.{exponent, exponent-least}
-use Rattle.selector.specs.RecordLaws.{top-constants, top-degree}
+use Rattle.selector.proofs.RecordLaws.{top-constants, top-degree}
 use Rattle.selector.specs.Search.{factor_of}
 use Rattle.tree.proofs.SearchLaws.{bounds_are, cap_all, cap-next, order_distinct, order_listed, search_begin, target_lost, target_none, target_won, within}
 use Rattle.tree.proofs.search.search.Goals as goal

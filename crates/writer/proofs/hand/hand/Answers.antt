@@ -1,6 +1,6 @@
 -- `hand::hand` meets its contract: words put at the front.
 use Rattle.std.proofs.Common.{◌∙◌}
-use Rattle.writer.specs.HandLaws.{handed-front}
+use Rattle.writer.proofs.HandLaws.{handed-front}
 use Rattle.writer.proofs.hand.hand.Goals as goal
 
 pub returns : goal.returns

@@ -1,6 +1,6 @@
 -- `hand::hand_unless` meets its contract: refused, too short, handed out.
 use Rattle.std.proofs.Common.{◌∙◌}
-use Rattle.writer.specs.HandLaws.{hand_given, hand_refused, hand_short}
+use Rattle.writer.proofs.HandLaws.{hand_given, hand_refused, hand_short}
 use Rattle.writer.proofs.hand.hand_unless.Goals as goal
 
 pub returns-then-number-ne0 : goal.returns-then-number-ne0

@@ -9,7 +9,7 @@ use Rattle.base.specs.Modular.{same_pow, pow-mod}
 use Rattle.base.specs.Powers.{pow-mul}
 use Rattle.base.specs.Roots.{Root, root_square}
 use Rattle.field.specs.Field.{p, fmul, fpow, generator, is_non_residue, squared}
-use Rattle.field.specs.Numerals.{generator_half}
+use Rattle.field.proofs.Numerals.{generator_half}
 
 pub fmul_below : (a b : ℕ) → fmul a b < p
 fmul_below a b = mod-lt (a * b) (omega arith)

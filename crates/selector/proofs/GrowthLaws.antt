@@ -14,16 +14,7 @@ use Rattle.base.specs.Pick.{pick}
 use Rattle.selector.specs.SortLaws.{times}
 use Rattle.selector.specs.Inner.{depth}
 use Rattle.selector.specs.Tree.{Tree, and_then, fork, grown, leaf, offer, offer_all, or_fork, size, standing}
-
--- a gate stands at a leaf
-abbrev pub In : ℕ → Tree → Type 0
-In g (leaf h) = g ≡ h
-In g (fork l r) = In g l ⊎ In g r
-
--- no gate stands at two leaves
-abbrev pub Once : Tree → Type 0
-Once (leaf h) = Unit {0}
-Once (fork l r) = ((g : ℕ) → In g l → In g r → ⊥) × Once l × Once r
+use Rattle.selector.specs.Leaves.{In, Once}
 
 -- what an offer of g makes of the gates of t
 abbrev pub Kept : ℕ → Tree → Option Tree → Type 0

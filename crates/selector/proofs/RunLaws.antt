@@ -11,7 +11,8 @@ use Rattle.base.specs.Pick.{pick}
 use Rattle.selector.specs.Flat.{Placed, Stands, grow_flat, grow_from, offer_node, placed, split_flat}
 use Rattle.selector.specs.FlatLaws.{Grown, Match, implements, length-split, spot}
 use Rattle.selector.specs.Inner.{Among, Distinct, Listed, depth, Holds}
-use Rattle.selector.specs.GrowthLaws.{In, Kept, Once, Within, offer-kept, offer-within}
+use Rattle.selector.specs.Leaves.{In, Once}
+use Rattle.selector.proofs.GrowthLaws.{Kept, Within, offer-kept, offer-within}
 use Rattle.selector.specs.NodeLaws.{length-put, put_gate, put-left}
 use Rattle.selector.specs.Nodes.{most_levels, most_nodes, node_size, node_slots, put}
 use Rattle.selector.specs.Tree.{Tree, and_then, fork, grown, leaf, offer, offer_all, size}

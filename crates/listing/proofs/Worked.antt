@@ -4,7 +4,7 @@ use Rattle.std.specs.Prelude.{◌≡◌, refl, List, [], ◌∷◌, ◌++◌, �
 use Rattle.std.proofs.Math.Option.{bind}
 use Rattle.listing.specs.Listing.{off, records, section, six_sections, Reading, whole, refused, read}
 use Rattle.listing.specs.Ends.{end_of, fixed_end, records_end, sections_at, judged, listing_from}
-use Rattle.listing.specs.ReaderLaws.{refused_back}
+use Rattle.listing.proofs.ReaderLaws.{refused_back}
 use Rattle.listing.specs.declared.sections.Listing.{Listing}
 use Rattle.listing.specs.declared.sections.Listing.TheVariants.{Whole, Refused}
 

@@ -18,7 +18,7 @@ use Rattle.pieces.specs.WriteLaws.{put-length, put_other, put-at, below_rows, Re
 use Rattle.base.specs.Each.{Each}
 use Rattle.pieces.specs.RecordLaws.{fault_each, Whole, read-append}
 use Rattle.pieces.specs.CellLaws.{cell_named}
-use Rattle.pieces.specs.FaultLaws.{row_cut, row_fine, table-cut, table_fine}
+use Rattle.pieces.proofs.FaultLaws.{row_cut, row_fine, table-cut, table_fine}
 
 -- ---- what an accepted record is
 abbrev pub GoodRow : Gates → Read → Type 0

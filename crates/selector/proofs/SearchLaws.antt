@@ -10,7 +10,7 @@ use native.Mathlib.Omega.{arith}
 use Rattle.base.specs.Exponent.{exponent}
 use Rattle.base.specs.Pick.{both_true, pick}
 use Rattle.selector.specs.Gates.{constants_of, degree_at, placed_gates, sorted, top_constants, top_degree}
-use Rattle.selector.specs.GrowthLaws.{AllFit, grown_facts}
+use Rattle.selector.proofs.GrowthLaws.{AllFit, grown_facts}
 use Rattle.selector.specs.Search.{bounds, constants_over, degree_over, extra_levels, factor_of, first_bound, first_target, may_stand, or_tree, search_tree, targets, tree_k, tree_within}
 use Rattle.selector.specs.SortLaws.{length-sorted, times, times-sorted}
 use Rattle.selector.specs.Inner.{depth}

@@ -15,7 +15,7 @@ use Rattle.std.proofs.Math.Decide.{dec_lt, ℕ_discrete}
 use native.Mathlib.Omega.{arith}
 use Rattle.base.specs.Pick.{both, pick, pick_no, pick_yes}
 use Rattle.selector.specs.Gates.{constants_of, degree_at}
-use Rattle.selector.specs.MadeUpLaws.{wanted_few}
+use Rattle.selector.proofs.MadeUpLaws.{wanted_few}
 use Rattle.selector.specs.MadeUp.{all_listed, as_wanted, just_once, linked_from, nodes_fit, numbers_are, numbers_fit, tree_fits, wanted}
 use Rattle.selector.specs.NodeLaws.{at_fork, at_leaf}
 use Rattle.selector.specs.Nodes.{both_sides, gate_at, left_at, most_levels, most_nodes, right_at, tree_at}

@@ -8,7 +8,7 @@ use Rattle.pieces.specs.Records.{Read, whole}
 use Rattle.pieces.specs.Writing.{put, padded, put_lines}
 use Rattle.pieces.specs.Rows.{row_lines, marked}
 use Rattle.pieces.specs.Tables.{entries, table_lines, sum_rows}
-use Rattle.pieces.specs.ClosedForms.{entries-many}
+use Rattle.pieces.proofs.ClosedForms.{entries-many}
 
 -- ---- rows
 pub rows_done : (path : ℕ → List ℕ) (k N r : ℕ) (b : List ℕ) → put_lines k N r (row_lines path []) b ≡ b

@@ -18,12 +18,12 @@ use Rattle.base.specs.Modular.{mul-mod}
 use Rattle.base.specs.Roots.{Root}
 use Rattle.base.specs.Cosets.{Cosets, coset_apart, coset_nonzero}
 use Rattle.field.specs.Field.{p, fpow, is_non_residue}
-use Rattle.field.specs.FieldLaws.{fmul_below}
+use Rattle.field.proofs.FieldLaws.{fmul_below}
 use Rattle.labels.specs.Refusals.{out_of_range, candidates_reach_p}
 use Rattle.labels.specs.Ranges.{ranges_fit, most_columns}
 use Rattle.labels.specs.RangesLaws.{Ranges, ranges-fit, some_row}
 use Rattle.labels.specs.Labels.{domain_generator, first_column, found, powers_taken, search_number, column_words, representatives_number, representatives_of, powers_of, taken_of, label_of, label_number, label_answer, fill_number, labels_written}
-use Rattle.labels.specs.Search.{search_taken, search_most, found_chosen}
+use Rattle.labels.proofs.Search.{search_taken, search_most, found_chosen}
 use Rattle.labels.specs.Filling.{generator_root}
 
 -- labels at the first m words of a list

@@ -16,10 +16,10 @@ use Rattle.selector.specs.Gates.{constants_of, constants_word, degree_of, kind_o
 use Rattle.selector.specs.MadeUp.{all_listed, as_wanted, just_once, linked_at, linked_from, nodes_fit, numbers_are, numbers_fit, tree_fits, wanted}
 use Rattle.selector.specs.NodeLaws.{Agrees, left_agrees, mid, mid_room, own_tree, put-left, put_right, right_agrees, root_left, root_right, self_agrees, size-some, tree_shallow}
 use Rattle.selector.specs.Nodes.{laid, left_at, most_levels, most_nodes, node_size, node_slots, node_words, right_at, tree_at}
-use Rattle.selector.specs.RecordLaws.{constants-small, marker_bare, records-each, top-constants}
+use Rattle.selector.proofs.RecordLaws.{constants-small, marker_bare, records-each, top-constants}
 use Rattle.selector.specs.Refusals.{record_number, records_number}
 use Rattle.selector.specs.Search.{constants_over, plan_tree, search_tree, tree_d, tree_f, tree_k}
-use Rattle.selector.specs.SearchLaws.{Searched, search_facts}
+use Rattle.selector.proofs.SearchLaws.{Searched, search_facts}
 use Rattle.selector.specs.SortLaws.{leaf_other, leaf_self, length-placed, times, times_inside, times_outside}
 use Rattle.selector.specs.Inner.{depth, Sound}
 use Rattle.selector.specs.Tree.{Tree, fork, leaf, size, standing}

@@ -17,19 +17,11 @@ use Rattle.base.specs.Pick.{pick}
 use Rattle.base.specs.Drops.{drop-none, drop-one}
 use Rattle.base.specs.Powers.{one-pow}
 use Rattle.field.specs.Field.{p, fpow, is_non_residue}
-use Rattle.field.specs.FieldLaws.{non_residue_unit}
+use Rattle.field.proofs.FieldLaws.{non_residue_unit}
 use Rattle.labels.specs.declared.NonResidues.{NonResidues}
-use Rattle.labels.specs.declared.RepresentativesAnswer.{RepresentativesAnswer}
 use Rattle.labels.specs.Ranges.{most_columns}
 use Rattle.labels.specs.Labels.{Columns, kept, first_column, absent, tried, search_from, found, taken_one, taken_from, column_words}
-
--- the columns as the code holds them, with the number of N-th powers taken so far
-abbrev pub stored : Columns → ℕ → NonResidues
-stored s t = record { kept = length s.values; values = column_words s.values; powers = column_words s.powers; taken = t }
-
--- a refused answer
-abbrev pub no_representatives : ℕ → RepresentativesAnswer
-no_representatives number = record { number = number; values = replicate most_columns 0; powers = replicate most_columns 0; taken = 0 }
+use Rattle.labels.specs.Stored.{stored}
 
 -- one more word goes where the zeros begin
 pub padded-next : (xs : List ℕ) (x : ℕ) → length xs < most_columns → set (column_words xs) (length xs) x ≡ column_words (xs ++ (x ∷ []))

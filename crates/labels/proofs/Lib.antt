@@ -1,0 +1,3 @@
+-- Laws.
+pub mod LabelLaws
+pub mod Search

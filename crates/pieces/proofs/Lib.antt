@@ -1,0 +1,5 @@
+-- Laws.
+pub mod WholeLaws
+pub mod FaultLaws
+pub mod ClosedForms
+pub mod LineLaws

@@ -1,0 +1,7 @@
+-- Laws.
+pub mod RecordLaws
+pub mod MadeUpLaws
+pub mod WalkLaws
+pub mod GrowthLaws
+pub mod SearchLaws
+pub mod RunLaws
