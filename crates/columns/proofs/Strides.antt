@@ -1,5 +1,5 @@
 -- A place that goes by `step` words, n times: it stays within a list of `len` words. For the loop that takes every `step`-th word. Assumes nothing.
-use mathlib.Core.Path.{◌≡◌, refl}
+use mathlib.Core.Path.{◌≡◌}
 use Prim.Native.Nat.{ℕ, suc, ◌+◌, ◌-◌, ◌*◌, ◌≤◌, ◌<◌}
 use native.Mathlib.Omega.{arith}
 

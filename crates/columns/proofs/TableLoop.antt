@@ -2,13 +2,13 @@
 use mathlib.Core.Path.{◌≡◌, refl, sym, ap, ◌∙◌}
 use mathlib.Core.Bool.{true}
 use mathlib.Core.List.{List, [], ◌∷◌}
-use Prim.Native.Nat.{ℕ, suc, ◌+◌, ◌-◌, ◌*◌, ◌≤◌, ◌<◌}
+use Prim.Native.Nat.{ℕ, ◌+◌, ◌*◌, ◌≤◌}
 use native.Mathlib.Numerals.{add-one}
 use native.Mathlib.Omega.{arith}
 use lib.ListN.{length, get_or, take, drop}
-use Rattle.pieces.specs.Records.{Read, whole, table_size, read_by, tables_of}
+use Rattle.pieces.specs.Records.{Read, whole, table_size, tables_of}
 use Rattle.pieces.specs.Writing.{put_lines}
-use Rattle.pieces.specs.Tables.{Stack, stack_next, table_fault, tables_fault, entries, table_lines, sum_rows}
+use Rattle.pieces.specs.Tables.{stack_next, table_fault, tables_fault, entries, table_lines, sum_rows}
 use Rattle.pieces.specs.RecordLaws.{Rest, rest_begin, rest_done, Going}
 use Rattle.pieces.proofs.LineLaws.{tables_turn, sum_turn, tables_done, sum_done}
 use Rattle.columns.specs.Stacked.{stack}

@@ -1,5 +1,5 @@
 -- `columns::cells::all_named` meets its contract: the words that are left are all named just where all words are, as long as none was found that is not.
-use Rattle.std.proofs.Common.{refl, sym, ◌∙◌, arith, ◌-◌}
+use Rattle.std.proofs.Common.{refl, sym, ◌∙◌, arith}
 use Rattle.columns.specs.Section.{named, all_turn, all_found, all_done}
 use Rattle.columns.proofs.cells.all_named.Goals as goal
 

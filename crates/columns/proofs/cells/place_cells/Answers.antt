@@ -1,5 +1,5 @@
 -- `columns::cells::place_cells` meets its contract. What is left to run from the present columns is what the whole run gives.
-use Rattle.std.proofs.Common.{refl, sym, ◌∙◌, arith, add-zero, ◌+◌, ◌-◌}
+use Rattle.std.proofs.Common.{refl, sym, ◌∙◌, arith, add-zero, ◌+◌}
 use Rattle.pieces.specs.Setting.{cols}
 use Rattle.pieces.specs.CellLaws.{run_turn, run_done}
 use Rattle.columns.proofs.cells.place_cells.Goals as goal

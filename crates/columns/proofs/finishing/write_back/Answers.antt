@@ -1,5 +1,5 @@
 -- `columns::finishing::write_back` meets its contract: a seen variable's first cell is one of the cells.
-use Rattle.std.proofs.Common.{sym, arith, ◌+◌, ◌-◌, ◌*◌, ◌<◌, length, get_or}
+use Rattle.std.proofs.Common.{sym, arith, ◌+◌, ◌*◌, ◌<◌, length, get_or}
 use Rattle.pieces.specs.CellLaws.{write_none, write_one, fine_first}
 use Rattle.columns.proofs.finishing.write_back.Goals as goal
 

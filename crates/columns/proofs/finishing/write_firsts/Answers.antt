@@ -26,7 +26,7 @@ loop-v-preserved c =
     let a = c.args in
     let l = c.loop-v in
     let w = c.write_back in
-    (omega arith, w.auto.1.1.1.0 ∙ l.invariant.1, l.invariant.2 ∙ finish_turn a.variables l.v a.scratch.now l.copies c.loop-v-test.true ∙ ap (finish_from (l.v + 1) (a.variables - (l.v + 1)) a.scratch.now) (sym w.ensures))
+    (omega arith, w.auto.copies ∙ l.invariant.1, l.invariant.2 ∙ finish_turn a.variables l.v a.scratch.now l.copies c.loop-v-test.true ∙ ap (finish_from (l.v + 1) (a.variables - (l.v + 1)) a.scratch.now) (sym w.ensures))
 
 pub shape_of-copies : goal.shape_of-copies
 shape_of-copies c = c.loop-v.invariant.1

@@ -1,5 +1,5 @@
 -- `columns::opening::clear` meets its contract. The words passed are zeros, the others as they were.
-use Rattle.std.proofs.Common.{◌≡◌, refl, ap, ◌∙◌, arith, ℕ, ◌-◌, List, set, length-set}
+use Rattle.std.proofs.Common.{◌≡◌, refl, ap, ◌∙◌, arith, ℕ, List, set, length-set}
 use Rattle.pieces.specs.Writing.{cleared}
 use Rattle.pieces.specs.WriteLaws.{clear_turn}
 use Rattle.columns.proofs.opening.clear.Goals as goal

@@ -1,5 +1,5 @@
 -- `columns::records::all_below` meets its contract: the words that are left are all below p just where all words are, as long as none was found that is not.
-use Rattle.std.proofs.Common.{lt-ltb, le-ltb, refl, sym, ◌∙◌, arith, ◌-◌, ltb, get_or}
+use Rattle.std.proofs.Common.{lt-ltb, le-ltb, refl, sym, ◌∙◌, arith, ltb, get_or}
 use Rattle.field.specs.Field.{p}
 use Rattle.columns.specs.Section.{below_all_of, all_turn, all_found, all_done}
 use Rattle.columns.proofs.records.all_below.Goals as goal

@@ -52,7 +52,7 @@ loop-column-preserved c =
     let a = c.args in
     let l = c.loop-column in
     let w = c.write_column in
-    columns-next a.width a.step a.trace a.row a.many a.words.now a.buffer.now l.buffer l.at l.column l.invariant c.loop-column-test.true c.requires.width_le_step.3 _ w.auto.1.1.1.1.1.0 w.ensures
+    columns-next a.width a.step a.trace a.row a.many a.words.now a.buffer.now l.buffer l.at l.column l.invariant c.loop-column-test.true c.requires.width_le_step.3 _ w.auto.buffer w.ensures
 
 pub shape_of-buffer : goal.shape_of-buffer
 shape_of-buffer c = c.loop-column.invariant.long

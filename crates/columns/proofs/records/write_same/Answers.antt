@@ -1,5 +1,5 @@
 -- `columns::records::write_same` meets its contract. What is left to put from the present buffer is what the whole put gives.
-use Rattle.std.proofs.Common.{◌≡◌, refl, sym, ◌∙◌, add-zero, arith, ℕ, ◌+◌, ◌-◌, ◌<◌, replicate, length-set}
+use Rattle.std.proofs.Common.{◌≡◌, refl, sym, ◌∙◌, add-zero, arith, ℕ, ◌+◌, ◌<◌, replicate, length-set}
 use Rattle.std.proofs.lemmas.List.{length-replicate, get_or-replicate}
 use Rattle.pieces.specs.WriteLaws.{put_turn, put_done}
 use Rattle.columns.proofs.records.write_same.Goals as goal

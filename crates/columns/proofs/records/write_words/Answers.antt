@@ -1,5 +1,5 @@
 -- `columns::records::write_words` meets its contract. What is left to put from the present buffer is what the whole put gives.
-use Rattle.std.proofs.Common.{◌≡◌, refl, sym, ◌∙◌, add-zero, arith, ◌+◌, ◌-◌, length-set}
+use Rattle.std.proofs.Common.{◌≡◌, refl, sym, ◌∙◌, add-zero, arith, ◌+◌, length-set}
 use Rattle.pieces.specs.WriteLaws.{put_turn, put_done}
 use Rattle.columns.proofs.records.write_words.Goals as goal
 

@@ -1,7 +1,8 @@
 -- `columns::rooms::rooms_of` meets its contract: a sound plan's numbers are small, so their products fit a word.
-use Rattle.std.proofs.Common.{◌≡◌, refl, ◌∙◌, ⊎_elim, arith, ℕ, ◌+◌, ◌*◌, ◌≤◌, lt-ltb, le-ltb, mul-le-mul, ltb}
+use Rattle.std.proofs.Common.{◌≡◌, refl, ◌∙◌, arith, ℕ, ◌+◌, ◌*◌, ◌≤◌, lt-ltb, le-ltb, mul-le-mul, ltb}
 use Rattle.base.specs.Pick.{pick}
 use Rattle.parameters.specs.Lookup.{mode_of, width_of}
+use Rattle.columns.proofs.rooms.rooms_of.Goals.{then-mode-gt0, else-mode-gt0}
 use Rattle.columns.proofs.rooms.rooms_of.Goals as goal
 
 small : (a n b : ℕ) → a ≤ b → n ≤ 65536 → a * n ≤ b * 65536
@@ -37,10 +38,13 @@ overflow_mul-result-3 c = omega (arith, c.requires.variables)
 
 pub returns : goal.returns
 returns c gs ns =
-    let table-words : c.if-mode-gt0.tables ≡ pick (ltb 0 (mode_of c.args.outline.lookup)) ((width_of c.args.outline.lookup + 1) * c.args.outline.trace) 0 = let m = mode_of c.args.outline.lookup in
-    ⊎_elim
-    (λ w. w.3 ∙ rw (w.1.ensures, lt-ltb 0 m (omega (arith, c.mode.ensures, w.0.taken))))
-    (λ w. w.1 ∙ rw (le-ltb 0 m (omega (arith, c.mode.ensures, w.0.left)))) c.if-mode-gt0.branch in
+    let m = mode_of c.args.outline.lookup in
+    let table-words : c.if-mode-gt0.tables ≡ pick (ltb 0 m) ((width_of c.args.outline.lookup + 1) * c.args.outline.trace) 0 =
+        elim c.if-mode-gt0.branch [
+          then-mode-gt0 w ↦ w.tables-is ∙ rw (w.lookup_width.ensures, lt-ltb 0 m (omega (arith, c.mode.ensures, w.if-mode-gt0.true)))
+        | else-mode-gt0 w ↦ w.tables-is ∙ rw (le-ltb 0 m (omega (arith, c.mode.ensures, w.if-mode-gt0.false)))
+        ]
+    in
     let q = c.args.outline in
     let w = c.requires in
     record {

@@ -8,16 +8,7 @@ use Rattle.pieces.proofs.FaultLaws.{RowFine, row_cut, row_fine}
 use Rattle.columns.specs.Placed.{gates_by}
 use Rattle.columns.proofs.Parts.{rest_is}
 use Rattle.columns.proofs.RowLoop.{passed_none, passed-next, passed-found, passed_fine, passed_count, passed_marks}
-use Rattle.columns.proofs.row_tests.test_rows.Goals.{After-row_fault-fault, Else-fault-ne0}
 use Rattle.columns.proofs.row_tests.test_rows.Goals as goal
-
--- the part that is handed over is the words from i on
-part : (c : After-row_fault-fault) → let a = c.args in let l = c.loop-i in
-    c.row_fault-fault.result ≡ row_fault (gates_by a.many a.own.now a.barred.now) a.trace l.row (front row_size (drop l.i a.piece.now))
-part c =
-    let a = c.args in
-    let l = c.loop-i in
-    c.row_fault-fault.ensures ∙ ap (λ (rest : List ℕ). row_fault (gates_by a.many a.own.now a.barred.now) a.trace l.row (front row_size rest)) (rest_is a.piece.now l.i)
 
 -- a record without a fault is whole
 record Good (gs : Gates) (trace row i : ℕ) (piece : List ℕ) : Type 0 where
@@ -25,17 +16,18 @@ record Good (gs : Gates) (trace row i : ℕ) (piece : List ℕ) : Type 0 where
   pub fits : get_or piece (i + 1) 0 ≤ length piece - (i + 2)
   pub fine : RowFine gs trace row (get_or piece i 0) (get_or piece (i + 1) 0) (take (get_or piece (i + 1) 0) (drop (i + 2) piece))
 
-good_row : (gs : Gates) (trace row i : ℕ) (piece : List ℕ) → row_fault gs trace row (front row_size (drop i piece)) ≡ 0 → Good gs trace row i piece
-good_row gs trace row i piece e =
+-- the part that is handed over is the words from i on
+from_here : (gs : Gates) (trace row i fault : ℕ) (piece : List ℕ) → fault ≡ row_fault gs trace row (front row_size (take (length piece - i) (drop i piece)))
+    → fault ≡ row_fault gs trace row (front row_size (drop i piece))
+from_here gs trace row i fault piece e = e ∙ ap (λ (rest : List ℕ). row_fault gs trace row (front row_size rest)) (rest_is piece i)
+
+good_row : (gs : Gates) (trace row i fault : ℕ) (piece : List ℕ) → fault ≡ row_fault gs trace row (front row_size (take (length piece - i) (drop i piece))) → fault ≡ 0
+    → Good gs trace row i piece
+good_row gs trace row i fault piece is none =
+    let e : row_fault gs trace row (front row_size (drop i piece)) ≡ 0 = sym (from_here gs trace row i fault piece is) ∙ none in
     let bad : row_fault gs trace row cut ≢ 0 = λ z. omega (arith, z, row_cut gs trace row) in
     let u = uncut row_size piece i (λ q. bad (ap (row_fault gs trace row) (sym q) ∙ e)) in
     record { two = u.two; fits = u.fits; fine = row_fine gs trace row (get_or piece i 0) (get_or piece (i + 1) 0) _ (ap (row_fault gs trace row) (sym u.is) ∙ e) }
-
-good : (c : Else-fault-ne0) → let a = c.args in let l = c.loop-i in Good (gates_by a.many a.own.now a.barred.now) a.trace l.row l.i a.piece.now
-good c =
-    let a = c.args in
-    let l = c.loop-i in
-    good_row (gates_by a.many a.own.now a.barred.now) a.trace l.row l.i a.piece.now (sym (part c.before) ∙ c.if-fault-ne0.false)
 
 pub loop-i-init : goal.loop-i-init
 loop-i-init c =
@@ -43,53 +35,77 @@ loop-i-init c =
     passed_none (gates_by a.many a.own.now a.barred.now) a.trace a.piece.now a.used.now a.count (omega (arith, c.requires))
 
 pub row_fault-fault-requires : goal.row_fault-fault-requires
-row_fault-fault-requires c = c.requires.0
+row_fault-fault-requires c =
+    c.requires.0
 
 pub returns-then-fault-ne0 : goal.returns-then-fault-ne0
 returns-then-fault-ne0 c =
     let a = c.args in
     let l = c.loop-i in
-    let e = part c.before in record { number_value = e ∙ sym (passed-found (gates_by a.many a.own.now a.barred.now) a.trace a.piece.now a.used.now a.count l.used l.row l.i l.invariant (omega arith) (λ z. c.if-fault-ne0.true (e ∙ z))); rows_value = λ z. absurd (c.if-fault-ne0.true z) }
+    let e = from_here (gates_by a.many a.own.now a.barred.now) a.trace l.row l.i c.row_fault-fault.result a.piece.now c.row_fault-fault.ensures in
+    record { number_value = e ∙ sym (passed-found (gates_by a.many a.own.now a.barred.now) a.trace a.piece.now a.used.now a.count l.used l.row l.i l.invariant (omega arith) (λ z. c.if-fault-ne0.true (e ∙ z))); rows_value = λ z. absurd (c.if-fault-ne0.true z) }
 
 pub offset_bounds-piece-i-in-loop-i : goal.offset_bounds-piece-i-in-loop-i
-offset_bounds-piece-i-in-loop-i c = omega (arith, (good c).two)
+offset_bounds-piece-i-in-loop-i c =
+    let good = good_row (gates_by c.args.many c.args.own.now c.args.barred.now) c.args.trace c.loop-i.row c.loop-i.i c.row_fault-fault.result c.args.piece.now c.row_fault-fault.ensures c.if-fault-ne0.false in
+    omega (arith, good.two)
 
 pub bounds-piece-i : goal.bounds-piece-i
-bounds-piece-i c = omega (arith, good c.before)
+bounds-piece-i c =
+    let good = good_row (gates_by c.args.many c.args.own.now c.args.barred.now) c.args.trace c.loop-i.row c.loop-i.i c.row_fault-fault.result c.args.piece.now c.row_fault-fault.ensures c.if-fault-ne0.false in
+    omega (arith, good)
 
 pub offset_bounds-used-g : goal.offset_bounds-used-g
-offset_bounds-used-g c = omega (arith, (good c.before).fine, c.requires.0)
+offset_bounds-used-g c =
+    let good = good_row (gates_by c.args.many c.args.own.now c.args.barred.now) c.args.trace c.loop-i.row c.loop-i.i c.row_fault-fault.result c.args.piece.now c.row_fault-fault.ensures c.if-fault-ne0.false in
+    omega (arith, good.fine, c.requires.0)
 
 pub bounds-used-g : goal.bounds-used-g
-bounds-used-g c = omega (arith, (good c.before.before).fine, c.requires.0)
+bounds-used-g c =
+    let good = good_row (gates_by c.args.many c.args.own.now c.args.barred.now) c.args.trace c.loop-i.row c.loop-i.i c.row_fault-fault.result c.args.piece.now c.row_fault-fault.ensures c.if-fault-ne0.false in
+    omega (arith, good.fine, c.requires.0)
 
 pub overflow_add-row : goal.overflow_add-row
-overflow_add-row c = omega (arith, (good c.before.before).fine, c.requires.2)
+overflow_add-row c =
+    let good = good_row (gates_by c.args.many c.args.own.now c.args.barred.now) c.args.trace c.loop-i.row c.loop-i.i c.row_fault-fault.result c.args.piece.now c.row_fault-fault.ensures c.if-fault-ne0.false in
+    omega (arith, good.fine, c.requires.2)
 
 pub overflow_add-i : goal.overflow_add-i
-overflow_add-i c = omega (arith, good c.before.before)
+overflow_add-i c =
+    let good = good_row (gates_by c.args.many c.args.own.now c.args.barred.now) c.args.trace c.loop-i.row c.loop-i.i c.row_fault-fault.result c.args.piece.now c.row_fault-fault.ensures c.if-fault-ne0.false in
+    omega (arith, good)
 
 pub overflow_add-i-in-loop-i : goal.overflow_add-i-in-loop-i
-overflow_add-i-in-loop-i c = omega (arith, good c.before.before)
+overflow_add-i-in-loop-i c =
+    let good = good_row (gates_by c.args.many c.args.own.now c.args.barred.now) c.args.trace c.loop-i.row c.loop-i.i c.row_fault-fault.result c.args.piece.now c.row_fault-fault.ensures c.if-fault-ne0.false in
+    omega (arith, good)
 
 pub offset_bounds-piece-i-in-loop-i-2 : goal.offset_bounds-piece-i-in-loop-i-2
-offset_bounds-piece-i-in-loop-i-2 c = omega (arith, good c.before.before)
+offset_bounds-piece-i-in-loop-i-2 c =
+    let good = good_row (gates_by c.args.many c.args.own.now c.args.barred.now) c.args.trace c.loop-i.row c.loop-i.i c.row_fault-fault.result c.args.piece.now c.row_fault-fault.ensures c.if-fault-ne0.false in
+    omega (arith, good)
 
 pub bounds-piece-i-in-loop-i : goal.bounds-piece-i-in-loop-i
-bounds-piece-i-in-loop-i c = omega (arith, good c.before.before.before)
+bounds-piece-i-in-loop-i c =
+    let good = good_row (gates_by c.args.many c.args.own.now c.args.barred.now) c.args.trace c.loop-i.row c.loop-i.i c.row_fault-fault.result c.args.piece.now c.row_fault-fault.ensures c.if-fault-ne0.false in
+    omega (arith, good)
 
 pub overflow_add-i-in-loop-i-2 : goal.overflow_add-i-in-loop-i-2
-overflow_add-i-in-loop-i-2 c = omega (arith, good c.before.before.before)
+overflow_add-i-in-loop-i-2 c =
+    let good = good_row (gates_by c.args.many c.args.own.now c.args.barred.now) c.args.trace c.loop-i.row c.loop-i.i c.row_fault-fault.result c.args.piece.now c.row_fault-fault.ensures c.if-fault-ne0.false in
+    omega (arith, good)
 
 pub loop-i-smaller : goal.loop-i-smaller
-loop-i-smaller c = omega (arith, good c.before.before.before)
+loop-i-smaller c =
+    let good = good_row (gates_by c.args.many c.args.own.now c.args.barred.now) c.args.trace c.loop-i.row c.loop-i.i c.row_fault-fault.result c.args.piece.now c.row_fault-fault.ensures c.if-fault-ne0.false in
+    omega (arith, good)
 
 pub loop-i-preserved : goal.loop-i-preserved
 loop-i-preserved c =
+    let good = good_row (gates_by c.args.many c.args.own.now c.args.barred.now) c.args.trace c.loop-i.row c.loop-i.i c.row_fault-fault.result c.args.piece.now c.row_fault-fault.ensures c.if-fault-ne0.false in
     let a = c.args in
     let l = c.loop-i in
-    let t = good c.before.before.before in
-    passed-next (gates_by a.many a.own.now a.barred.now) a.trace a.piece.now a.used.now a.count l.used l.row l.i l.invariant t.two t.fits t.fine
+    passed-next (gates_by a.many a.own.now a.barred.now) a.trace a.piece.now a.used.now a.count l.used l.row l.i l.invariant good.two good.fits good.fine
 
 pub returns : goal.returns
 returns c =

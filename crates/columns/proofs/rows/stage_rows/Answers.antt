@@ -1,19 +1,12 @@
 -- `columns::rows::stage_rows` meets its contract. Each turn stages one record, and the rest is what is left (StageLoop).
-use Rattle.std.proofs.Common.{inl, inr, arith, ◌+◌, ◌-◌, ◌<◌, get_or}
+use Rattle.std.proofs.Common.{inl, inr, arith, ◌+◌, ◌<◌, get_or}
 use Rattle.columns.proofs.Parts.{part_is, part_length}
-use Rattle.columns.proofs.StageLoop.{staging_begin, Front, staging_front, staging_next, staging_done}
-use Rattle.columns.proofs.rows.stage_rows.Goals.{Else-piece-i}
+use Rattle.columns.proofs.StageLoop.{staging_begin, staging_front, staging_next, staging_done}
 use Rattle.columns.proofs.rows.stage_rows.Goals as goal
 
--- what is known of the record at the front
-turn : (c : Else-piece-i) → let a = c.args in Front a.height a.bits.now a.steps.now a.piece.now c.loop-rows.i
-turn c =
-    let a = c.args in
-    let l = c.loop-rows in
-    staging_front a.height a.bits.now a.steps.now a.piece.now l.stage l.rows l.i l.invariant c.requires.1 c.if-piece-i.false
-
 pub loop-rows-init : goal.loop-rows-init
-loop-rows-init c = let a = c.args in staging_begin a.height a.bits.now a.steps.now a.piece.now a.stage.now c.requires.0.1
+loop-rows-init c =
+    let a = c.args in staging_begin a.height a.bits.now a.steps.now a.piece.now a.stage.now c.requires.height_bound.1
 
 pub returns-then-piece-i : goal.returns-then-piece-i
 returns-then-piece-i c =
@@ -22,76 +15,112 @@ returns-then-piece-i c =
     staging_done a.height a.bits.now a.steps.now a.piece.now l.stage l.rows l.i l.invariant (inr c.if-piece-i.true)
 
 pub offset_bounds-piece-i : goal.offset_bounds-piece-i
-offset_bounds-piece-i c = omega (arith, turn c)
+offset_bounds-piece-i c =
+    let turn = staging_front c.args.height c.args.bits.now c.args.steps.now c.args.piece.now c.loop-rows.stage c.loop-rows.rows c.loop-rows.i c.loop-rows.invariant c.requires.stageable c.if-piece-i.false in
+    omega (arith, turn)
 
 pub bounds-piece-i : goal.bounds-piece-i
-bounds-piece-i c = omega (arith, turn c.before)
+bounds-piece-i c =
+    let turn = staging_front c.args.height c.args.bits.now c.args.steps.now c.args.piece.now c.loop-rows.stage c.loop-rows.rows c.loop-rows.i c.loop-rows.invariant c.requires.stageable c.if-piece-i.false in
+    omega (arith, turn)
 
 pub overflow_add-start : goal.overflow_add-start
-overflow_add-start c = omega (arith, turn c.before)
+overflow_add-start c =
+    let turn = staging_front c.args.height c.args.bits.now c.args.steps.now c.args.piece.now c.loop-rows.stage c.loop-rows.rows c.loop-rows.i c.loop-rows.invariant c.requires.stageable c.if-piece-i.false in
+    omega (arith, turn)
 
 pub overflow_add-end : goal.overflow_add-end
-overflow_add-end c = omega (arith, turn c.before)
+overflow_add-end c =
+    let turn = staging_front c.args.height c.args.bits.now c.args.steps.now c.args.piece.now c.loop-rows.stage c.loop-rows.rows c.loop-rows.i c.loop-rows.invariant c.requires.stageable c.if-piece-i.false in
+    omega (arith, turn)
 
 pub offset_bounds-piece-i-in-loop-rows : goal.offset_bounds-piece-i-in-loop-rows
-offset_bounds-piece-i-in-loop-rows c = omega (arith, turn c.before)
+offset_bounds-piece-i-in-loop-rows c =
+    let turn = staging_front c.args.height c.args.bits.now c.args.steps.now c.args.piece.now c.loop-rows.stage c.loop-rows.rows c.loop-rows.i c.loop-rows.invariant c.requires.stageable c.if-piece-i.false in
+    omega (arith, turn)
 
 pub bounds-piece-i-in-loop-rows : goal.bounds-piece-i-in-loop-rows
-bounds-piece-i-in-loop-rows c = omega (arith, turn c.before.before)
+bounds-piece-i-in-loop-rows c =
+    let turn = staging_front c.args.height c.args.bits.now c.args.steps.now c.args.piece.now c.loop-rows.stage c.loop-rows.rows c.loop-rows.i c.loop-rows.invariant c.requires.stageable c.if-piece-i.false in
+    omega (arith, turn)
 
 pub overflow_add-end-in-loop-rows : goal.overflow_add-end-in-loop-rows
-overflow_add-end-in-loop-rows c = omega (arith, turn c.before.before)
+overflow_add-end-in-loop-rows c =
+    let turn = staging_front c.args.height c.args.bits.now c.args.steps.now c.args.piece.now c.loop-rows.stage c.loop-rows.rows c.loop-rows.i c.loop-rows.invariant c.requires.stageable c.if-piece-i.false in
+    omega (arith, turn)
 
 pub overflow_mul-rows : goal.overflow_mul-rows
-overflow_mul-rows c = omega (arith, turn c.before.before, c.loop-rows-test.true)
+overflow_mul-rows c =
+    let turn = staging_front c.args.height c.args.bits.now c.args.steps.now c.args.piece.now c.loop-rows.stage c.loop-rows.rows c.loop-rows.i c.loop-rows.invariant c.requires.stageable c.if-piece-i.false in
+    omega (arith, turn, c.loop-rows-test.true)
 
 pub offset_bounds-bits-g : goal.offset_bounds-bits-g
-offset_bounds-bits-g c = omega (arith, turn c.before.before)
+offset_bounds-bits-g c =
+    let turn = staging_front c.args.height c.args.bits.now c.args.steps.now c.args.piece.now c.loop-rows.stage c.loop-rows.rows c.loop-rows.i c.loop-rows.invariant c.requires.stageable c.if-piece-i.false in
+    omega (arith, turn)
 
 pub bounds-bits-g : goal.bounds-bits-g
-bounds-bits-g c = (turn c.before.before.before).known
+bounds-bits-g c =
+    let turn = staging_front c.args.height c.args.bits.now c.args.steps.now c.args.piece.now c.loop-rows.stage c.loop-rows.rows c.loop-rows.i c.loop-rows.invariant c.requires.stageable c.if-piece-i.false in
+    turn.known
 
 pub offset_bounds-steps-g : goal.offset_bounds-steps-g
-offset_bounds-steps-g c = omega (arith, turn c.before.before.before.before)
+offset_bounds-steps-g c =
+    let turn = staging_front c.args.height c.args.bits.now c.args.steps.now c.args.piece.now c.loop-rows.stage c.loop-rows.rows c.loop-rows.i c.loop-rows.invariant c.requires.stageable c.if-piece-i.false in
+    omega (arith, turn)
 
 pub bounds-steps-g : goal.bounds-steps-g
-bounds-steps-g c = (turn c.before.before.before.before.before).known
+bounds-steps-g c =
+    let turn = staging_front c.args.height c.args.bits.now c.args.steps.now c.args.piece.now c.loop-rows.stage c.loop-rows.rows c.loop-rows.i c.loop-rows.invariant c.requires.stageable c.if-piece-i.false in
+    turn.known
 
 pub offset_bounds-piece-start : goal.offset_bounds-piece-start
-offset_bounds-piece-start c = omega (arith, turn c.before.before.before.before.before.before)
+offset_bounds-piece-start c =
+    let turn = staging_front c.args.height c.args.bits.now c.args.steps.now c.args.piece.now c.loop-rows.stage c.loop-rows.rows c.loop-rows.i c.loop-rows.invariant c.requires.stageable c.if-piece-i.false in
+    omega (arith, turn)
 
 pub slice_bounds-stage_line-count : goal.slice_bounds-stage_line-count
-slice_bounds-stage_line-count c = omega (arith, turn c.before.before.before.before.before.before)
+slice_bounds-stage_line-count c =
+    let turn = staging_front c.args.height c.args.bits.now c.args.steps.now c.args.piece.now c.loop-rows.stage c.loop-rows.rows c.loop-rows.i c.loop-rows.invariant c.requires.stageable c.if-piece-i.false in
+    omega (arith, turn)
 
 pub slice_bounds-stage_line-start : goal.slice_bounds-stage_line-start
-slice_bounds-stage_line-start c = omega (arith, turn c.before.before.before.before.before.before)
+slice_bounds-stage_line-start c =
+    let turn = staging_front c.args.height c.args.bits.now c.args.steps.now c.args.piece.now c.loop-rows.stage c.loop-rows.rows c.loop-rows.i c.loop-rows.invariant c.requires.stageable c.if-piece-i.false in
+    omega (arith, turn)
 
 pub slice_bounds-stage_line-end : goal.slice_bounds-stage_line-end
-slice_bounds-stage_line-end c = omega (arith, turn c.before.before.before.before.before.before)
+slice_bounds-stage_line-end c =
+    let turn = staging_front c.args.height c.args.bits.now c.args.steps.now c.args.piece.now c.loop-rows.stage c.loop-rows.rows c.loop-rows.i c.loop-rows.invariant c.requires.stageable c.if-piece-i.false in
+    omega (arith, turn)
 
 pub stage_line-requires : goal.stage_line-requires
 stage_line-requires c =
+    let turn = staging_front c.args.height c.args.bits.now c.args.steps.now c.args.piece.now c.loop-rows.stage c.loop-rows.rows c.loop-rows.i c.loop-rows.invariant c.requires.stageable c.if-piece-i.false in
     let a = c.args in
     let l = c.loop-rows in
-    let t = turn c.before.before.before.before.before.before.before.before in
+    let t = turn in
     let n = part_length a.piece.now (l.i + 2) (get_or a.piece.now (l.i + 1) 0) (omega (arith, t.two, t.fits)) in
     let h : l.rows < 32 = c.loop-rows-test.true in
-    (omega (arith, h, c.requires.0.0), omega (arith, n, t.room), l.invariant.long)
+    (omega (arith, h, c.requires.height_bound.0), omega (arith, n, t.room), l.invariant.long)
 
 pub overflow_add-rows : goal.overflow_add-rows
-overflow_add-rows c = omega (arith, c.loop-rows-test.true)
+overflow_add-rows c =
+    omega (arith, c.loop-rows-test.true)
 
 pub loop-rows-smaller : goal.loop-rows-smaller
-loop-rows-smaller c = omega (arith, c.loop-rows-test.true)
+loop-rows-smaller c =
+    omega (arith, c.loop-rows-test.true)
 
 pub loop-rows-preserved : goal.loop-rows-preserved
 loop-rows-preserved c =
+    let turn = staging_front c.args.height c.args.bits.now c.args.steps.now c.args.piece.now c.loop-rows.stage c.loop-rows.rows c.loop-rows.i c.loop-rows.invariant c.requires.stageable c.if-piece-i.false in
     let a = c.args in
     let l = c.loop-rows in
     let w = c.stage_line in
     let e = part_is a.piece.now (l.i + 2) (get_or a.piece.now (l.i + 1) 0) in
-    staging_next a.height a.bits.now a.steps.now a.piece.now l.stage l.rows l.i l.invariant (turn c.before.before.before.before.before.before.before.before.before) c.loop-rows-test.true _ w.ensures.1 c.requires.0.0
-    (λ path q. rw (e, q.digits_are) at w.ensures.0)
+    staging_next a.height a.bits.now a.steps.now a.piece.now l.stage l.rows l.i l.invariant turn c.loop-rows-test.true _ w.ensures.stage_len c.requires.height_bound.0
+    (λ path q. rw (e, q.digits_are) at w.ensures.stage_after)
 
 pub returns : goal.returns
 returns c =

@@ -1,5 +1,5 @@
 -- `columns::rows::write_rows` meets its contract. Each turn stages some records and writes their lines, and the rest is what is left (StageLoop).
-use Rattle.std.proofs.Common.{refl, sym, arith, ℕ, ◌+◌, ◌-◌, ◌<◌, ◌≤◌, length, drop, length-drop}
+use Rattle.std.proofs.Common.{refl, sym, arith, ℕ, ◌+◌, ◌<◌, ◌≤◌, length, drop, length-drop}
 use Rattle.columns.specs.Placed.{told_by, Stageable, Stages}
 use Rattle.columns.proofs.Parts.{rest_is}
 use Rattle.columns.proofs.StageLoop.{writing_begin, writing_room, writing_next, writing_lines}
@@ -113,7 +113,7 @@ loop-i-preserved c =
     let a = c.args in
     let l = c.loop-i in
     let w = c.write_lines in
-    writing_next a.height a.trace a.count a.piece.now a.constants.now a.gates.bits a.gates.steps l.constants l.stage l.row l.i l.invariant _ _ _ (first) _ w.auto.1.1.1.1.1.1.0 w.ensures
+    writing_next a.height a.trace a.count a.piece.now a.constants.now a.gates.bits a.gates.steps l.constants l.stage l.row l.i l.invariant _ _ _ (first) _ w.auto.buffer w.ensures
 
 pub shape_of-constants : goal.shape_of-constants
 shape_of-constants c = c.loop-i.invariant.long

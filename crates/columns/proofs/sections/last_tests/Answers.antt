@@ -16,15 +16,15 @@ pub returns-then-all_used : goal.returns-then-all_used
 returns-then-all_used c gs ns =
     let a = c.args in
     let x = setting_of (plan_in a.outline gs ns) in
-    sym (pick_yes (complete x (state_in a.counts a.t3)) _ 16 (sym (c.complete.ensures gs ns a.t3) ∙ c.if-complete.true) ∙ pick_yes (all_used x.gates a.t3) 0 17 (sym c.all_used.ensures ∙ c.if-all_used.true))
+    sym (pick_yes (complete x (state_in a.counts a.used)) _ 16 (sym (c.complete.ensures gs ns a.used) ∙ c.if-complete.true) ∙ pick_yes (all_used x.gates a.used) 0 17 (sym c.all_used.ensures ∙ c.if-all_used.true))
 
 pub returns-then-complete : goal.returns-then-complete
 returns-then-complete c gs ns =
     let a = c.args in
     let x = setting_of (plan_in a.outline gs ns) in
-    sym (pick_yes (complete x (state_in a.counts a.t3)) _ 16 (sym (c.complete.ensures gs ns a.t3) ∙ c.if-complete.true) ∙ pick_no (all_used x.gates a.t3) 0 17 (sym c.all_used.ensures ∙ c.if-all_used.false))
+    sym (pick_yes (complete x (state_in a.counts a.used)) _ 16 (sym (c.complete.ensures gs ns a.used) ∙ c.if-complete.true) ∙ pick_no (all_used x.gates a.used) 0 17 (sym c.all_used.ensures ∙ c.if-all_used.false))
 
 pub returns : goal.returns
 returns c gs ns =
     let a = c.args in
-    sym (pick_no (complete (setting_of (plan_in a.outline gs ns)) (state_in a.counts a.t3)) _ 16 (sym (c.complete.ensures gs ns a.t3) ∙ c.if-complete.false))
+    sym (pick_no (complete (setting_of (plan_in a.outline gs ns)) (state_in a.counts a.used)) _ 16 (sym (c.complete.ensures gs ns a.used) ∙ c.if-complete.false))

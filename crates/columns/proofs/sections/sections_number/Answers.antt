@@ -8,44 +8,43 @@ use Rattle.columns.specs.Intake.{setting_of, store_of}
 use Rattle.columns.specs.IntakeLaws.{short_room, long_room}
 use Rattle.columns.specs.SectionsLaws.{number_19, number_10, number_contents}
 use Rattle.columns.proofs.RowLoop.{gates-number}
-use Rattle.columns.proofs.sections.sections_number.Goals.{After-room_number-short}
 use Rattle.columns.proofs.sections.sections_number.Goals as goal
-
--- the outline is the plan's
-short-is : (c : After-room_number-short) → let a = c.args in c.room_number-short.result ≡ pick (room_to_open (setting_of a.self) (store_of a.constants.now a.copies.now a.scratch.now a.tables.now)) 0 10
-short-is c = let q = c.args.self in c.room_number-short.ensures q.gates q.nodes ∙ rw c.outline-outline.ensures
 
 pub returns-then-gates-ne0 : goal.returns-then-gates-ne0
 returns-then-gates-ne0 c =
-    let answer-is : c.parts_rows-gates.result ≡ gate_rows_answer c.args.self = c.parts_rows-gates.ensures ∙ rw c.outline-outline.ensures in
+    let answer-is : c.parts_rows-gates.result ≡ gate_rows_answer c.args.plan = c.parts_rows-gates.ensures ∙ rw c.outline-outline.ensures in
     let a = c.args in
-    number_19 a.self (store_of a.constants.now a.copies.now a.scratch.now a.tables.now) a.rows.now a.s-words.now a.cells.now a.table-words.now (λ z. c.if-gates-ne0.true ((gates-number a.self c.parts_rows-gates.result (answer-is)).1 z))
+    number_19 a.plan (store_of a.constants.now a.copies.now a.scratch.now a.tables.now) a.rows.now a.s_words.now a.cells.now a.table_words.now (λ z. c.if-gates-ne0.true ((gates-number a.plan c.parts_rows-gates.result answer-is).1 z))
 
 pub room_number-short-requires : goal.room_number-short-requires
 room_number-short-requires c =
-    let answer-is : c.parts_rows-gates.result ≡ gate_rows_answer c.args.self = c.parts_rows-gates.ensures ∙ rw c.outline-outline.ensures in
-    let no_fault : plan_fault c.args.self ≡ 0 = (gates-number c.args.self c.parts_rows-gates.result (answer-is)).0 c.if-gates-ne0.false in
-    let q = c.args.self in rw c.outline-outline.ensures (small (outline_of q) q.gates q.nodes (no_fault))
+    let answer-is : c.parts_rows-gates.result ≡ gate_rows_answer c.args.plan = c.parts_rows-gates.ensures ∙ rw c.outline-outline.ensures in
+    let no_fault : plan_fault c.args.plan ≡ 0 = (gates-number c.args.plan c.parts_rows-gates.result answer-is).0 c.if-gates-ne0.false in
+    let q = c.args.plan in rw c.outline-outline.ensures (small (outline_of q) q.gates q.nodes no_fault)
 
 pub returns-then-short-ne0 : goal.returns-then-short-ne0
 returns-then-short-ne0 c =
-    let answer-is : c.parts_rows-gates.result ≡ gate_rows_answer c.args.self = c.parts_rows-gates.ensures ∙ rw c.outline-outline.ensures in
-    let no_fault : plan_fault c.args.self ≡ 0 = (gates-number c.args.self c.parts_rows-gates.result (answer-is)).0 c.if-gates-ne0.false in
+    -- the outline is the plan's
+    let short-is : let a = c.args in c.room_number-short.result ≡ pick (room_to_open (setting_of a.plan) (store_of a.constants.now a.copies.now a.scratch.now a.tables.now)) 0 10 = let q = c.args.plan in c.room_number-short.ensures q.gates q.nodes ∙ rw c.outline-outline.ensures in
+    let answer-is : c.parts_rows-gates.result ≡ gate_rows_answer c.args.plan = c.parts_rows-gates.ensures ∙ rw c.outline-outline.ensures in
+    let no_fault : plan_fault c.args.plan ≡ 0 = (gates-number c.args.plan c.parts_rows-gates.result answer-is).0 c.if-gates-ne0.false in
     let a = c.args in
     let b = store_of a.constants.now a.copies.now a.scratch.now a.tables.now in
-    let k = short_room (room_to_open (setting_of a.self) b) c.room_number-short.result (short-is c.before) c.if-short-ne0.true in
-    k.1 ∙ number_10 a.self b a.rows.now a.s-words.now a.cells.now a.table-words.now (no_fault) k.0
+    let k = short_room (room_to_open (setting_of a.plan) b) c.room_number-short.result short-is c.if-short-ne0.true in
+    k.1 ∙ number_10 a.plan b a.rows.now a.s_words.now a.cells.now a.table_words.now no_fault k.0
 
 pub contents_of-requires : goal.contents_of-requires
 contents_of-requires c =
-    let answer-is : c.parts_rows-gates.result ≡ gate_rows_answer c.args.self = c.parts_rows-gates.ensures ∙ rw c.outline-outline.ensures in
-    let no_fault : plan_fault c.args.self ≡ 0 = (gates-number c.args.self c.parts_rows-gates.result (answer-is)).0 c.if-gates-ne0.false in
+    let answer-is : c.parts_rows-gates.result ≡ gate_rows_answer c.args.plan = c.parts_rows-gates.ensures ∙ rw c.outline-outline.ensures in
+    let no_fault : plan_fault c.args.plan ≡ 0 = (gates-number c.args.plan c.parts_rows-gates.result answer-is).0 c.if-gates-ne0.false in
     (no_fault, answer-is)
 
 pub returns : goal.returns
 returns c =
-    let answer-is : c.parts_rows-gates.result ≡ gate_rows_answer c.args.self = c.parts_rows-gates.ensures ∙ rw c.outline-outline.ensures in
-    let no_fault : plan_fault c.args.self ≡ 0 = (gates-number c.args.self c.parts_rows-gates.result (answer-is)).0 c.if-gates-ne0.false in
+    -- the outline is the plan's
+    let short-is : let a = c.args in c.room_number-short.result ≡ pick (room_to_open (setting_of a.plan) (store_of a.constants.now a.copies.now a.scratch.now a.tables.now)) 0 10 = let q = c.args.plan in c.room_number-short.ensures q.gates q.nodes ∙ rw c.outline-outline.ensures in
+    let answer-is : c.parts_rows-gates.result ≡ gate_rows_answer c.args.plan = c.parts_rows-gates.ensures ∙ rw c.outline-outline.ensures in
+    let no_fault : plan_fault c.args.plan ≡ 0 = (gates-number c.args.plan c.parts_rows-gates.result answer-is).0 c.if-gates-ne0.false in
     let a = c.args in
     let b = store_of a.constants.now a.copies.now a.scratch.now a.tables.now in
-    c.contents_of.ensures ∙ number_contents a.self b a.rows.now a.s-words.now a.cells.now a.table-words.now (no_fault) (long_room (room_to_open (setting_of a.self) b) c.room_number-short.result (short-is c.before.before) c.if-short-ne0.false)
+    c.contents_of.ensures ∙ number_contents a.plan b a.rows.now a.s_words.now a.cells.now a.table_words.now no_fault (long_room (room_to_open (setting_of a.plan) b) c.room_number-short.result short-is c.if-short-ne0.false)

@@ -1,5 +1,5 @@
 -- `columns::tables::table_fault` meets its contract: one equation of the number for each way out. The product of width and rows is taken only when both are small.
-use Rattle.std.proofs.Common.{◌≡◌, sym, ap, ◌∙◌, arith, ℕ, ◌+◌, ◌-◌, ◌*◌, ◌<◌, ◌≤◌, length, get_or, take, drop, true, mul-le-mul}
+use Rattle.std.proofs.Common.{◌≡◌, sym, ap, ◌∙◌, arith, ℕ, ◌+◌, ◌-◌, ◌*◌, ◌<◌, ◌≤◌, length, get_or, take, drop, mul-le-mul}
 use Rattle.field.specs.Field.{p}
 use Rattle.pieces.specs.Records.{whole, table_size, all_below}
 use Rattle.pieces.specs.Front.{front}

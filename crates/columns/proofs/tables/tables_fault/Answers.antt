@@ -1,6 +1,6 @@
 -- `columns::tables::tables_fault` meets its contract. The records that are left have the fault of the whole piece, as long as none was found.
-use Rattle.std.proofs.Common.{◌≡◌, sym, ap, ◌∙◌, subst, arith, ℕ, ◌+◌, ◌-◌, ◌*◌, ◌<◌, ◌≤◌, length, get_or, drop, List, ◌≢◌, Bool, add-one}
-use Rattle.pieces.specs.Records.{whole, cut, table_size, tables_of}
+use Rattle.std.proofs.Common.{◌≡◌, sym, ap, ◌∙◌, subst, arith, ℕ, ◌+◌, ◌*◌, ◌<◌, ◌≤◌, length, get_or, drop, List, ◌≢◌, Bool, add-one}
+use Rattle.pieces.specs.Records.{cut, table_size, tables_of}
 use Rattle.pieces.specs.Front.{front}
 use Rattle.pieces.specs.Tables.{Stack, stack_next, table_fault}
 use Rattle.pieces.specs.RecordLaws.{Uncut, uncut, Looking, looking_begin, looking_done, looking-found, looking-next}

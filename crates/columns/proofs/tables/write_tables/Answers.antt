@@ -1,5 +1,5 @@
 -- `columns::tables::write_tables` meets its contract. Each turn writes one table, which the piece has no fault with, and the rest is what is left (TableLoop).
-use Rattle.std.proofs.Common.{◌≡◌, ap, arith, ℕ, ◌+◌, ◌-◌, ◌*◌, ◌<◌, ◌≤◌, length, get_or, List, true, ◌≢◌}
+use Rattle.std.proofs.Common.{◌≡◌, ap, arith, ℕ, ◌+◌, ◌*◌, ◌<◌, ◌≤◌, length, get_or, List, true, ◌≢◌}
 use Rattle.pieces.specs.Records.{cut, table_size}
 use Rattle.pieces.specs.Tables.{stack_next, table_fault}
 use Rattle.pieces.specs.RecordLaws.{Going, going}
@@ -267,7 +267,7 @@ loop-i-preserved c =
     let t = turn in
     let w = c.write_table in
     let e = part_is a.piece.now (l.i + 2) (a.width * get_or a.piece.now (l.i + 1) 0) in
-    stacking_next a.width a.trace a.count a.high a.piece.now a.tables.now l.tables l.t l.h l.i l.invariant (front-record) t.wide _ w.auto.1.1.1.1.1.1.0 (rw e at w.ensures)
+    stacking_next a.width a.trace a.count a.high a.piece.now a.tables.now l.tables l.t l.h l.i l.invariant (front-record) t.wide _ w.auto.tables (rw e at w.ensures)
 
 pub shape_of-tables : goal.shape_of-tables
 shape_of-tables c = c.loop-i.invariant.long

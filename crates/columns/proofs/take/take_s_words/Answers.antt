@@ -11,111 +11,137 @@ use Rattle.columns.specs.declared.intake.Intake.{Intake}
 use Rattle.pieces.specs.SWords.{s_words_number, s_words_written}
 use Rattle.pieces.proofs.FaultLaws.{words_room}
 use Rattle.columns.specs.IntakeLaws.{plan_fine, words_19, words_10, words_own, words_refused, words-taken}
-use Rattle.columns.proofs.take.take_s_words.Goals.{After-s_words_fault-fault, Else-fault-ne0, Start}
 use Rattle.columns.proofs.take.take_s_words.Goals as goal
-
--- the state in parts
-abbrev held : Start → Intake
-held c = intake_in c.args.outline c.args.gates.now c.args.nodes.now c.args.counts []
 
 product : (a n b : ℕ) → a ≤ b → n ≤ 65536 → a * n ≤ b * 65536
 product a n b h k = mul-le-mul h k
 
--- the piece's number is its first faulty word's
-own : (c : After-s_words_fault-fault) → let s = held c in let a = c.args in s_words_number (setting_of s.plan) (state_of s) a.piece.now a.constants.now ≡ c.s_words_fault-fault.result
-own c =
-    let a = c.args in
-    let r = c.rooms_of.ensures a.gates.now a.nodes.now in
-    words_own (held c.before.before.before.before.before.before.before.before.before.before.before) a.piece.now a.constants.now (upright c.before.before.before.before.before) (omega (arith, c.if-constants-rooms_of.left, r.constants_are)) ∙ sym c.s_words_fault-fault.ensures
-
--- a piece without a fault ends within its section
-ends : (c : Else-fault-ne0) → let a = c.args in a.counts.s_words + length a.piece.now ≤ a.outline.specialised * a.outline.trace
-ends c =
-    let a = c.args in
-    words_room (a.outline.specialised * a.outline.trace) a.counts.s_words a.piece.now (counts c.before.before.before.before.before.before).words_in (sym c.s_words_fault-fault.ensures ∙ c.if-fault-ne0.left)
-
 pub rooms_of-requires : goal.rooms_of-requires
 rooms_of-requires c =
-    let upright : stands (setting_of (held c.before.before.before.before.before.before).plan) (state_of (held c.before.before.before.before.before.before)) ≡ true = sym (c.stands.ensures []) ∙ c.if-stands.taken in
-    let no_fault : plan_fault (held c.before.before.before.before.before.before).plan ≡ 0 = plan_fine (held c.before.before.before.before.before.before) (upright) in
-    let a = c.args in small a.outline a.gates.now a.nodes.now (no_fault)
+    let held : Intake = intake_in c.args.outline c.args.gates.now c.args.nodes.now c.args.counts [] in
+    let upright : stands (setting_of held.plan) (state_of held) ≡ true = sym (c.stands.ensures []) ∙ c.if-stands.true in
+    let no_fault : plan_fault held.plan ≡ 0 = plan_fine held upright in
+    let a = c.args in small a.outline a.gates.now a.nodes.now no_fault
 
 pub returns-then-constants-rooms_of : goal.returns-then-constants-rooms_of
 returns-then-constants-rooms_of c =
-    let upright : stands (setting_of (held c.before.before.before.before.before.before).plan) (state_of (held c.before.before.before.before.before.before)) ≡ true = sym (c.stands.ensures []) ∙ c.if-stands.taken in
-    let s = held c.before.before.before.before.before.before.before.before.before.before in
+    let held : Intake = intake_in c.args.outline c.args.gates.now c.args.nodes.now c.args.counts [] in
+    let upright : stands (setting_of held.plan) (state_of held) ≡ true = sym (c.stands.ensures []) ∙ c.if-stands.true in
+    let s = held in
     let a = c.args in
     let r = c.rooms_of.ensures a.gates.now a.nodes.now in
-    let k = words_refused s a.piece.now a.constants.now 10 (words_10 s a.piece.now a.constants.now (upright) (omega (arith, c.if-constants-rooms_of.taken, r.constants_are))) (λ z. omega arith) in
+    let k = words_refused s a.piece.now a.constants.now 10 (words_10 s a.piece.now a.constants.now upright (omega (arith, c.if-constants-rooms_of.true, r.constants_are))) (λ z. omega arith) in
     record { value = c.give.ensures ∙ ap given_of k.0; constants_after = k.1 }
 
 pub overflow_mul-total : goal.overflow_mul-total
 overflow_mul-total c =
-    let upright : stands (setting_of (held c.before.before.before.before.before.before).plan) (state_of (held c.before.before.before.before.before.before)) ≡ true = sym (c.stands.ensures []) ∙ c.if-stands.taken in
-    let no_fault : plan_fault (held c.before.before.before.before.before.before).plan ≡ 0 = plan_fine (held c.before.before.before.before.before.before) (upright) in
-    let fine : Sound (held c.before.before.before.before.before.before).plan = sound (held c.before.before.before.before.before.before).plan (no_fault) in
+    let held : Intake = intake_in c.args.outline c.args.gates.now c.args.nodes.now c.args.counts [] in
+    let upright : stands (setting_of held.plan) (state_of held) ≡ true = sym (c.stands.ensures []) ∙ c.if-stands.true in
+    let no_fault : plan_fault held.plan ≡ 0 = plan_fine held upright in
+    let fine : Sound held.plan = sound held.plan no_fault in
     let q = c.args.outline in
     let w = fine in
     omega (arith, product q.specialised q.trace 16 w.special w.ranges.long)
 
 pub s_words_fault-fault-requires : goal.s_words_fault-fault-requires
 s_words_fault-fault-requires c =
-    let upright : stands (setting_of (held c.before.before.before.before.before.before).plan) (state_of (held c.before.before.before.before.before.before)) ≡ true = sym (c.stands.ensures []) ∙ c.if-stands.taken in
-    let no_fault : plan_fault (held c.before.before.before.before.before.before).plan ≡ 0 = plan_fine (held c.before.before.before.before.before.before) (upright) in
-    let fine : Sound (held c.before.before.before.before.before.before).plan = sound (held c.before.before.before.before.before.before).plan (no_fault) in
-    let counts : Counted (setting_of (held c.before.before.before.before.before.before).plan) (state_of (held c.before.before.before.before.before.before)) = (stood (setting_of (held c.before.before.before.before.before.before).plan) (state_of (held c.before.before.before.before.before.before)) (upright)).counts in
+    let held : Intake = intake_in c.args.outline c.args.gates.now c.args.nodes.now c.args.counts [] in
+    let upright : stands (setting_of held.plan) (state_of held) ≡ true = sym (c.stands.ensures []) ∙ c.if-stands.true in
+    let no_fault : plan_fault held.plan ≡ 0 = plan_fine held upright in
+    let fine : Sound held.plan = sound held.plan no_fault in
+    let counts : Counted (setting_of held.plan) (state_of held) = (stood (setting_of held.plan) (state_of held) upright).counts in
     let q = c.args.outline in
     let w = fine in
-    ((counts).words_in, omega (arith, product q.specialised q.trace 16 w.special w.ranges.long))
+    (counts.words_in, omega (arith, product q.specialised q.trace 16 w.special w.ranges.long))
 
 pub returns-then-fault-ne0 : goal.returns-then-fault-ne0
 returns-then-fault-ne0 c =
+    let held : Intake = intake_in c.args.outline c.args.gates.now c.args.nodes.now c.args.counts [] in
+    let upright : stands (setting_of held.plan) (state_of held) ≡ true = sym (c.stands.ensures []) ∙ c.if-stands.true in
+    -- the piece's number is its first faulty word's
+    let own : let s = held in let a = c.args in s_words_number (setting_of s.plan) (state_of s) a.piece.now a.constants.now ≡ c.s_words_fault-fault.result =
+        let a = c.args in
+        let r = c.rooms_of.ensures a.gates.now a.nodes.now in
+        words_own held a.piece.now a.constants.now upright (omega (arith, c.if-constants-rooms_of.false, r.constants_are)) ∙ sym c.s_words_fault-fault.ensures
+    in
     let a = c.args in
-    let k = words_refused (held c.before.before.before.before.before.before.before.before.before.before.before.before.before) a.piece.now a.constants.now _ (own c.before.before) c.if-fault-ne0.taken in
+    let k = words_refused held a.piece.now a.constants.now _ own c.if-fault-ne0.true in
     record { value = c.give-then-fault-ne0.ensures ∙ ap given_of k.0; constants_after = k.1 }
 
 pub overflow_mul-at : goal.overflow_mul-at
 overflow_mul-at c =
-    let upright : stands (setting_of (held c.before.before.before.before.before.before).plan) (state_of (held c.before.before.before.before.before.before)) ≡ true = sym (c.stands.ensures []) ∙ c.if-stands.taken in
-    let no_fault : plan_fault (held c.before.before.before.before.before.before).plan ≡ 0 = plan_fine (held c.before.before.before.before.before.before) (upright) in
-    let fine : Sound (held c.before.before.before.before.before.before).plan = sound (held c.before.before.before.before.before.before).plan (no_fault) in
+    let held : Intake = intake_in c.args.outline c.args.gates.now c.args.nodes.now c.args.counts [] in
+    let upright : stands (setting_of held.plan) (state_of held) ≡ true = sym (c.stands.ensures []) ∙ c.if-stands.true in
+    let no_fault : plan_fault held.plan ≡ 0 = plan_fine held upright in
+    let fine : Sound held.plan = sound held.plan no_fault in
     let q = c.args.outline in
     let w = fine in
     omega (arith, product q.told.constants q.trace 47 w.height w.ranges.long)
 
 pub overflow_add-at : goal.overflow_add-at
 overflow_add-at c =
-    let upright : stands (setting_of (held c.before.before.before.before.before.before).plan) (state_of (held c.before.before.before.before.before.before)) ≡ true = sym (c.stands.ensures []) ∙ c.if-stands.taken in
-    let no_fault : plan_fault (held c.before.before.before.before.before.before).plan ≡ 0 = plan_fine (held c.before.before.before.before.before.before) (upright) in
-    let fine : Sound (held c.before.before.before.before.before.before).plan = sound (held c.before.before.before.before.before.before).plan (no_fault) in
+    let held : Intake = intake_in c.args.outline c.args.gates.now c.args.nodes.now c.args.counts [] in
+    let upright : stands (setting_of held.plan) (state_of held) ≡ true = sym (c.stands.ensures []) ∙ c.if-stands.true in
+    let counts : Counted (setting_of held.plan) (state_of held) = (stood (setting_of held.plan) (state_of held) upright).counts in
+    -- a piece without a fault ends within its section
+    let ends : let a = c.args in a.counts.s_words + length a.piece.now ≤ a.outline.specialised * a.outline.trace =
+        let a = c.args in
+        words_room (a.outline.specialised * a.outline.trace) a.counts.s_words a.piece.now counts.words_in (sym c.s_words_fault-fault.ensures ∙ c.if-fault-ne0.false)
+    in
+    let no_fault : plan_fault held.plan ≡ 0 = plan_fine held upright in
+    let fine : Sound held.plan = sound held.plan no_fault in
     let q = c.args.outline in
     let w = fine in
-    omega (arith, product q.specialised q.trace 16 w.special w.ranges.long, product q.told.constants q.trace 47 w.height w.ranges.long, ends c.before.before)
+    omega (arith, product q.specialised q.trace 16 w.special w.ranges.long, product q.told.constants q.trace 47 w.height w.ranges.long, ends)
 
 pub write_words-requires : goal.write_words-requires
 write_words-requires c =
+    let held : Intake = intake_in c.args.outline c.args.gates.now c.args.nodes.now c.args.counts [] in
+    let upright : stands (setting_of held.plan) (state_of held) ≡ true = sym (c.stands.ensures []) ∙ c.if-stands.true in
+    let counts : Counted (setting_of held.plan) (state_of held) = (stood (setting_of held.plan) (state_of held) upright).counts in
+    -- a piece without a fault ends within its section
+    let ends : let a = c.args in a.counts.s_words + length a.piece.now ≤ a.outline.specialised * a.outline.trace =
+        let a = c.args in
+        words_room (a.outline.specialised * a.outline.trace) a.counts.s_words a.piece.now counts.words_in (sym c.s_words_fault-fault.ensures ∙ c.if-fault-ne0.false)
+    in
     let a = c.args in
-    omega (arith, ends c.before.before.before, c.if-constants-rooms_of.left, (c.rooms_of.ensures a.gates.now a.nodes.now).constants_are)
+    omega (arith, ends, c.if-constants-rooms_of.false, (c.rooms_of.ensures a.gates.now a.nodes.now).constants_are)
 
 pub overflow_add-counts : goal.overflow_add-counts
 overflow_add-counts c =
-    let upright : stands (setting_of (held c.before.before.before.before.before.before).plan) (state_of (held c.before.before.before.before.before.before)) ≡ true = sym (c.stands.ensures []) ∙ c.if-stands.taken in
-    let no_fault : plan_fault (held c.before.before.before.before.before.before).plan ≡ 0 = plan_fine (held c.before.before.before.before.before.before) (upright) in
-    let fine : Sound (held c.before.before.before.before.before.before).plan = sound (held c.before.before.before.before.before.before).plan (no_fault) in
+    let held : Intake = intake_in c.args.outline c.args.gates.now c.args.nodes.now c.args.counts [] in
+    let upright : stands (setting_of held.plan) (state_of held) ≡ true = sym (c.stands.ensures []) ∙ c.if-stands.true in
+    let counts : Counted (setting_of held.plan) (state_of held) = (stood (setting_of held.plan) (state_of held) upright).counts in
+    -- a piece without a fault ends within its section
+    let ends : let a = c.args in a.counts.s_words + length a.piece.now ≤ a.outline.specialised * a.outline.trace =
+        let a = c.args in
+        words_room (a.outline.specialised * a.outline.trace) a.counts.s_words a.piece.now counts.words_in (sym c.s_words_fault-fault.ensures ∙ c.if-fault-ne0.false)
+    in
+    let no_fault : plan_fault held.plan ≡ 0 = plan_fine held upright in
+    let fine : Sound held.plan = sound held.plan no_fault in
     let q = c.args.outline in
     let w = fine in
-    omega (arith, product q.specialised q.trace 16 w.special w.ranges.long, ends c.before.before.before.before.before.before.before)
+    omega (arith, product q.specialised q.trace 16 w.special w.ranges.long, ends)
 
 pub returns-then-stands : goal.returns-then-stands
 unfolding s_words_written
 returns-then-stands c =
+    let held : Intake = intake_in c.args.outline c.args.gates.now c.args.nodes.now c.args.counts [] in
+    let upright : stands (setting_of held.plan) (state_of held) ≡ true = sym (c.stands.ensures []) ∙ c.if-stands.true in
+    -- the piece's number is its first faulty word's
+    let own : let s = held in let a = c.args in s_words_number (setting_of s.plan) (state_of s) a.piece.now a.constants.now ≡ c.s_words_fault-fault.result =
+        let a = c.args in
+        let r = c.rooms_of.ensures a.gates.now a.nodes.now in
+        words_own held a.piece.now a.constants.now upright (omega (arith, c.if-constants-rooms_of.false, r.constants_are)) ∙ sym c.s_words_fault-fault.ensures
+    in
     let a = c.args in
-    let k = words-taken (held c.before.before.before.before.before.before.before.before.before.before.before.before.before.before.before.before.before.before.before.before) a.piece.now a.constants.now (own c.before.before.before.before.before.before.before.before.before ∙ c.if-fault-ne0.left) in
+    let k = words-taken held a.piece.now a.constants.now (own ∙ c.if-fault-ne0.false) in
     record { value = c.give-then-stands.ensures ∙ ap given_of k.0; constants_after = c.write_words.ensures ∙ k.1 }
 
 pub returns : goal.returns
 returns c =
-    let s = held c.before.before.before.before.before.before.before in
+    let held : Intake = intake_in c.args.outline c.args.gates.now c.args.nodes.now c.args.counts [] in
+    let s = held in
     let a = c.args in
-    let k = words_refused s a.piece.now a.constants.now 19 (words_19 s a.piece.now a.constants.now (sym (c.stands.ensures []) ∙ c.if-stands.left)) (λ z. omega arith) in
+    let k = words_refused s a.piece.now a.constants.now 19 (words_19 s a.piece.now a.constants.now (sym (c.stands.ensures []) ∙ c.if-stands.false)) (λ z. omega arith) in
     record { value = c.give-2.ensures ∙ ap given_of k.0; constants_after = k.1 }

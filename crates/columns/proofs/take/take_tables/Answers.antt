@@ -1,5 +1,5 @@
 -- `columns::take::take_tables` meets its contract: 19, 10, the first faulty record, then the tables stacked; without a lookup mode no record comes so far.
-use Rattle.std.proofs.Common.{Bool, true, false, List, [], ◌≡◌, ◌∙◌, ap, sym, arith, ℕ, ◌+◌, ◌*◌, ◌≤◌, length, ltb, add-zero}
+use Rattle.std.proofs.Common.{lt-ltb, le-ltb, Bool, true, false, List, [], ◌≡◌, ◌∙◌, ap, sym, arith, ℕ, ◌+◌, ◌*◌, ◌≤◌, length, ltb, add-zero}
 use Rattle.tree.specs.Plan.{plan_fault}
 use Rattle.tree.specs.SoundLaws.{Sound, sound}
 use Rattle.pieces.specs.Setting.{State, stands, table_room}
@@ -16,23 +16,7 @@ use Rattle.pieces.proofs.FaultLaws.{no_tables}
 use Rattle.pieces.proofs.LineLaws.{tables_done, sum_done}
 use Rattle.columns.specs.declared.intake.Taken.{Taken}
 use Rattle.columns.specs.IntakeLaws.{plan_fine, tables_19, tables_10, tables_own, tables_refused, tables-taken}
-use Rattle.columns.proofs.take.take_tables.Goals.{After-tables_fault-fault, Start}
 use Rattle.columns.proofs.take.take_tables.Goals as goal
-
--- the state in parts
-abbrev held : Start → Intake
-held c = intake_in c.args.outline c.args.gates.now c.args.nodes.now c.args.counts []
-
--- the piece's number is its first faulty record's
-fault-is : (c : After-tables_fault-fault) → let a = c.args in
-    c.tables_fault-fault.result ≡ tables_fault (ltb 0 (mode_of a.outline.lookup)) (width_of a.outline.lookup) a.outline.trace (stack_of (state_of (held c))) (tables_of a.piece.now)
-fault-is c = c.tables_fault-fault.ensures ∙ rw (c.mode-looked.ensures, c.lookup_width-width.ensures)
-
-own : (c : After-tables_fault-fault) → let s = held c in let a = c.args in tables_number (setting_of s.plan) (state_of s) a.piece.now a.tables.now ≡ c.tables_fault-fault.result
-own c =
-    let a = c.args in
-    let r = c.rooms_of.ensures a.gates.now a.nodes.now in
-    tables_own (held c.before.before.before.before.before.before.before.before.before.before.before.before) a.piece.now a.tables.now (upright c.before.before.before.before.before.before) (omega (arith, c.if-tables-rooms_of.left, r.tables_are)) ∙ sym (fault-is c)
 
 wide : (t : Bool) (n len : ℕ) → t ≡ true → pick t n 0 ≤ len → n ≤ len
 wide t n len e h = rw e at h
@@ -50,77 +34,111 @@ nothing_written s ws b e = rw e (tables_done (width_of s.plan.lookup) s.plan.tra
 
 pub rooms_of-requires : goal.rooms_of-requires
 rooms_of-requires c =
-    let upright : stands (setting_of (held c.before.before.before.before.before.before).plan) (state_of (held c.before.before.before.before.before.before)) ≡ true = sym (c.stands.ensures []) ∙ c.if-stands.taken in
-    let no_fault : plan_fault (held c.before.before.before.before.before.before).plan ≡ 0 = plan_fine (held c.before.before.before.before.before.before) (upright) in
-    let a = c.args in small a.outline a.gates.now a.nodes.now (no_fault)
+    let held : Intake = intake_in c.args.outline c.args.gates.now c.args.nodes.now c.args.counts [] in
+    let upright : stands (setting_of held.plan) (state_of held) ≡ true = sym (c.stands.ensures []) ∙ c.if-stands.true in
+    let no_fault : plan_fault held.plan ≡ 0 = plan_fine held upright in
+    let a = c.args in small a.outline a.gates.now a.nodes.now no_fault
 
 pub returns-then-tables-rooms_of : goal.returns-then-tables-rooms_of
 returns-then-tables-rooms_of c =
-    let upright : stands (setting_of (held c.before.before.before.before.before.before).plan) (state_of (held c.before.before.before.before.before.before)) ≡ true = sym (c.stands.ensures []) ∙ c.if-stands.taken in
-    let s = held c.before.before.before.before.before.before.before.before.before.before in
+    let held : Intake = intake_in c.args.outline c.args.gates.now c.args.nodes.now c.args.counts [] in
+    let upright : stands (setting_of held.plan) (state_of held) ≡ true = sym (c.stands.ensures []) ∙ c.if-stands.true in
+    let s = held in
     let a = c.args in
     let r = c.rooms_of.ensures a.gates.now a.nodes.now in
-    let k = tables_refused s a.piece.now a.tables.now 10 (tables_10 s a.piece.now a.tables.now (upright) (omega (arith, c.if-tables-rooms_of.taken, r.tables_are))) (λ z. omega arith) in
+    let k = tables_refused s a.piece.now a.tables.now 10 (tables_10 s a.piece.now a.tables.now upright (omega (arith, c.if-tables-rooms_of.true, r.tables_are))) (λ z. omega arith) in
     record { value = c.give.ensures ∙ ap given_of k.0; tables_after = k.1 }
 
 pub tables_fault-fault-requires : goal.tables_fault-fault-requires
 tables_fault-fault-requires c =
-    let upright : stands (setting_of (held c.before.before.before.before.before.before).plan) (state_of (held c.before.before.before.before.before.before)) ≡ true = sym (c.stands.ensures []) ∙ c.if-stands.taken in
-    let no_fault : plan_fault (held c.before.before.before.before.before.before).plan ≡ 0 = plan_fine (held c.before.before.before.before.before.before) (upright) in
-    let fine : Sound (held c.before.before.before.before.before.before).plan = sound (held c.before.before.before.before.before.before).plan (no_fault) in
-    let counts : Counted (setting_of (held c.before.before.before.before.before.before).plan) (state_of (held c.before.before.before.before.before.before)) = (stood (setting_of (held c.before.before.before.before.before.before).plan) (state_of (held c.before.before.before.before.before.before)) (upright)).counts in
+    let held : Intake = intake_in c.args.outline c.args.gates.now c.args.nodes.now c.args.counts [] in
+    let upright : stands (setting_of held.plan) (state_of held) ≡ true = sym (c.stands.ensures []) ∙ c.if-stands.true in
+    let no_fault : plan_fault held.plan ≡ 0 = plan_fine held upright in
+    let fine : Sound held.plan = sound held.plan no_fault in
+    let counts : Counted (setting_of held.plan) (state_of held) = (stood (setting_of held.plan) (state_of held) upright).counts in
     let w = fine in
     let t = counts in
     (omega (arith, w.width, c.lookup_width-width.ensures), t.tables_in, t.stack_in, w.ranges.long)
 
 pub returns-then-fault-ne0 : goal.returns-then-fault-ne0
 returns-then-fault-ne0 c =
+    let held : Intake = intake_in c.args.outline c.args.gates.now c.args.nodes.now c.args.counts [] in
+    -- the piece's number is its first faulty record's
+    let fault-is : let a = c.args in c.tables_fault-fault.result ≡ tables_fault (ltb 0 (mode_of a.outline.lookup)) (width_of a.outline.lookup) a.outline.trace (stack_of (state_of held)) (tables_of a.piece.now) = c.tables_fault-fault.ensures ∙ rw (c.mode-looked.ensures, c.lookup_width-width.ensures) in
+    let upright : stands (setting_of held.plan) (state_of held) ≡ true = sym (c.stands.ensures []) ∙ c.if-stands.true in
+    let own : let s = held in let a = c.args in tables_number (setting_of s.plan) (state_of s) a.piece.now a.tables.now ≡ c.tables_fault-fault.result =
+        let a = c.args in
+        let r = c.rooms_of.ensures a.gates.now a.nodes.now in
+        tables_own held a.piece.now a.tables.now upright (omega (arith, c.if-tables-rooms_of.false, r.tables_are)) ∙ sym fault-is
+    in
     let a = c.args in
-    let k = tables_refused (held c.before.before.before.before.before.before.before.before.before.before.before.before.before.before) a.piece.now a.tables.now _ (own c.before.before) c.if-fault-ne0.taken in
+    let k = tables_refused held a.piece.now a.tables.now _ own c.if-fault-ne0.true in
     record { value = c.give-then-fault-ne0.ensures ∙ ap given_of k.0; tables_after = k.1 }
 
 pub write_tables-stack-requires : goal.write_tables-stack-requires
 write_tables-stack-requires c =
-    let upright : stands (setting_of (held c.before.before.before.before.before.before).plan) (state_of (held c.before.before.before.before.before.before)) ≡ true = sym (c.stands.ensures []) ∙ c.if-stands.taken in
-    let no_fault : plan_fault (held c.before.before.before.before.before.before).plan ≡ 0 = plan_fine (held c.before.before.before.before.before.before) (upright) in
-    let fine : Sound (held c.before.before.before.before.before.before).plan = sound (held c.before.before.before.before.before.before).plan (no_fault) in
-    let counts : Counted (setting_of (held c.before.before.before.before.before.before).plan) (state_of (held c.before.before.before.before.before.before)) = (stood (setting_of (held c.before.before.before.before.before.before).plan) (state_of (held c.before.before.before.before.before.before)) (upright)).counts in
-    let looked : ltb 0 (mode_of c.args.outline.lookup) ≡ true = rw c.mode-looked.ensures at c.if-looked.taken in
-    let s = held c.before.before.before.before.before.before.before.before.before.before.before.before.before.before.before in
+    let held : Intake = intake_in c.args.outline c.args.gates.now c.args.nodes.now c.args.counts [] in
+    -- the piece's number is its first faulty record's
+    let fault-is : let a = c.args in c.tables_fault-fault.result ≡ tables_fault (ltb 0 (mode_of a.outline.lookup)) (width_of a.outline.lookup) a.outline.trace (stack_of (state_of held)) (tables_of a.piece.now) = c.tables_fault-fault.ensures ∙ rw (c.mode-looked.ensures, c.lookup_width-width.ensures) in
+    let upright : stands (setting_of held.plan) (state_of held) ≡ true = sym (c.stands.ensures []) ∙ c.if-stands.true in
+    let no_fault : plan_fault held.plan ≡ 0 = plan_fine held upright in
+    let fine : Sound held.plan = sound held.plan no_fault in
+    let counts : Counted (setting_of held.plan) (state_of held) = (stood (setting_of held.plan) (state_of held) upright).counts in
+    let looked : ltb 0 (mode_of c.args.outline.lookup) ≡ true = lt-ltb 0 (mode_of c.args.outline.lookup) (rw c.mode-looked.ensures at c.if-looked.true) in
+    let s = held in
     let a = c.args in
     let q = a.outline in
     let w = fine in
     let t = counts in
     let e = c.lookup_width-width.ensures in
-    let n : table_room (setting_of s.plan) ≤ length a.tables.now = omega (arith, c.if-tables-rooms_of.left, (c.rooms_of.ensures a.gates.now a.nodes.now).tables_are) in
-    let room = wide (ltb 0 (mode_of q.lookup)) ((width_of q.lookup + 1) * q.trace) (length a.tables.now) (looked) n in
-    let f : tables_fault true (width_of q.lookup) q.trace (stack_of (state_of s)) (tables_of a.piece.now) ≡ 0 = rw (looked) at (sym (fault-is c.before.before.before) ∙ c.if-fault-ne0.left) in
+    let n : table_room (setting_of s.plan) ≤ length a.tables.now = omega (arith, c.if-tables-rooms_of.false, (c.rooms_of.ensures a.gates.now a.nodes.now).tables_are) in
+    let room = wide (ltb 0 (mode_of q.lookup)) ((width_of q.lookup + 1) * q.trace) (length a.tables.now) looked n in
+    let f : tables_fault true (width_of q.lookup) q.trace (stack_of (state_of s)) (tables_of a.piece.now) ≡ 0 = rw looked at (sym fault-is ∙ c.if-fault-ne0.false) in
     rw e record { width_bound = (w.width, w.ranges.long, t.tables_in, t.stack_in, room); piece_value = f }
 
 pub returns-then-looked : goal.returns-then-looked
 unfolding tables_written
 returns-then-looked c =
+    let held : Intake = intake_in c.args.outline c.args.gates.now c.args.nodes.now c.args.counts [] in
+    -- the piece's number is its first faulty record's
+    let fault-is : let a = c.args in c.tables_fault-fault.result ≡ tables_fault (ltb 0 (mode_of a.outline.lookup)) (width_of a.outline.lookup) a.outline.trace (stack_of (state_of held)) (tables_of a.piece.now) = c.tables_fault-fault.ensures ∙ rw (c.mode-looked.ensures, c.lookup_width-width.ensures) in
+    let upright : stands (setting_of held.plan) (state_of held) ≡ true = sym (c.stands.ensures []) ∙ c.if-stands.true in
+    let own : let s = held in let a = c.args in tables_number (setting_of s.plan) (state_of s) a.piece.now a.tables.now ≡ c.tables_fault-fault.result =
+        let a = c.args in
+        let r = c.rooms_of.ensures a.gates.now a.nodes.now in
+        tables_own held a.piece.now a.tables.now upright (omega (arith, c.if-tables-rooms_of.false, r.tables_are)) ∙ sym fault-is
+    in
     let a = c.args in
-    let k = tables-taken (held c.before.before.before.before.before.before.before.before.before.before.before.before.before.before.before.before.before.before.before) a.piece.now a.tables.now (own c.before.before.before.before.before.before.before ∙ c.if-fault-ne0.left) in
+    let k = tables-taken held a.piece.now a.tables.now (own ∙ c.if-fault-ne0.false) in
     let w = c.write_tables-stack.ensures in
     let e = c.lookup_width-width.ensures in
     record { value = c.give-then-looked.ensures ∙ rw (w.count_value.0, w.count_value.1) (ap given_of k.0); tables_after = (rw e at w.tables_after) ∙ k.1 }
 
 pub returns-then-stands : goal.returns-then-stands
 returns-then-stands c =
-    let s = held c.before.before.before.before.before.before.before.before.before.before.before.before.before.before.before in
+    let held : Intake = intake_in c.args.outline c.args.gates.now c.args.nodes.now c.args.counts [] in
+    -- the piece's number is its first faulty record's
+    let fault-is : let a = c.args in c.tables_fault-fault.result ≡ tables_fault (ltb 0 (mode_of a.outline.lookup)) (width_of a.outline.lookup) a.outline.trace (stack_of (state_of held)) (tables_of a.piece.now) = c.tables_fault-fault.ensures ∙ rw (c.mode-looked.ensures, c.lookup_width-width.ensures) in
+    let upright : stands (setting_of held.plan) (state_of held) ≡ true = sym (c.stands.ensures []) ∙ c.if-stands.true in
+    let own : let s = held in let a = c.args in tables_number (setting_of s.plan) (state_of s) a.piece.now a.tables.now ≡ c.tables_fault-fault.result =
+        let a = c.args in
+        let r = c.rooms_of.ensures a.gates.now a.nodes.now in
+        tables_own held a.piece.now a.tables.now upright (omega (arith, c.if-tables-rooms_of.false, r.tables_are)) ∙ sym fault-is
+    in
+    let s = held in
     let ws = c.args.piece.now in
     let b = c.args.tables.now in
     let m = mode_of s.plan.lookup in
-    let k = tables-taken s ws b (own c.before.before.before ∙ c.if-fault-ne0.left) in
-    let off : ltb 0 m ≡ false = rw c.mode-looked.ensures at c.if-looked.left in
-    let f : tables_fault false (width_of s.plan.lookup) s.plan.trace (stack_of (state_of s)) (tables_of ws) ≡ 0 = rw off at (sym (fault-is c.before.before.before) ∙ c.if-fault-ne0.left) in
+    let k = tables-taken s ws b (own ∙ c.if-fault-ne0.false) in
+    let off : ltb 0 m ≡ false = le-ltb 0 m (rw c.mode-looked.ensures at c.if-looked.false) in
+    let f : tables_fault false (width_of s.plan.lookup) s.plan.trace (stack_of (state_of s)) (tables_of ws) ≡ 0 = rw off at (sym fault-is ∙ c.if-fault-ne0.false) in
     let e = no_tables (width_of s.plan.lookup) s.plan.trace (stack_of (state_of s)) (tables_of ws) f in
     record { value = c.give-then-stands.ensures ∙ ap given_of (ap (λ (t : State). as_taken (with_state s.plan t)) (sym (still (state_of s) ws e)) ∙ k.0); tables_after = sym (nothing_written s ws b e) ∙ k.1 }
 
 pub returns : goal.returns
 returns c =
-    let s = held c.before.before.before.before.before.before.before in
+    let held : Intake = intake_in c.args.outline c.args.gates.now c.args.nodes.now c.args.counts [] in
+    let s = held in
     let a = c.args in
-    let k = tables_refused s a.piece.now a.tables.now 19 (tables_19 s a.piece.now a.tables.now (sym (c.stands.ensures []) ∙ c.if-stands.left)) (λ z. omega arith) in
+    let k = tables_refused s a.piece.now a.tables.now 19 (tables_19 s a.piece.now a.tables.now (sym (c.stands.ensures []) ∙ c.if-stands.false)) (λ z. omega arith) in
     record { value = c.give-2.ensures ∙ ap given_of k.0; tables_after = k.1 }
