@@ -8,7 +8,7 @@ use Rattle.base.specs.Exponent.{exponent_from}
 use Rattle.base.specs.Firsts.{or_number}
 use Rattle.field.specs.Field.{p}
 use Rattle.labels.specs.Labels.{search_number}
-use Rattle.labels.specs.Numerals.{worked_labels}
+use Rattle.labels.proofs.Numerals.{worked_labels}
 use Rattle.selector.specs.Gates.{constants_of}
 use Rattle.selector.specs.MadeUp.{wanted}
 use Rattle.selector.specs.Paths.{path_to, path_of}

@@ -24,7 +24,7 @@ use Rattle.labels.specs.Ranges.{ranges_fit, most_columns}
 use Rattle.labels.specs.RangesLaws.{Ranges, ranges-fit, some_row}
 use Rattle.labels.specs.Labels.{domain_generator, first_column, found, powers_taken, search_number, column_words, representatives_number, representatives_of, powers_of, taken_of, label_of, label_number, label_answer, fill_number, labels_written}
 use Rattle.labels.proofs.Search.{search_taken, search_most, found_chosen}
-use Rattle.labels.specs.Filling.{generator_root}
+use Rattle.labels.proofs.Filling.{generator_root}
 
 -- labels at the first m words of a list
 pub record DistinctLabels (m : ℕ) (labels : List ℕ) : Type 0 where

@@ -1,3 +1,5 @@
 -- Laws.
 pub mod LabelLaws
 pub mod Search
+pub mod Numerals
+pub mod Filling

@@ -3,6 +3,5 @@ pub mod Refusals
 pub mod Ranges
 pub mod RangesLaws
 pub mod Labels
-pub mod Numerals
 pub mod Stored
-pub mod Filling
+pub mod Stretches

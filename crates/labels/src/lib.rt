@@ -6,7 +6,7 @@ ghost use Rattle.field.specs.Field.{p, fpow, is_non_residue};
 ghost use Rattle.labels.specs.Ranges.{ranges_fit, most_columns};
 ghost use Rattle.labels.specs.Labels.{Columns, domain_generator, absent, first_column, tried, found, taken_one, powers_taken, representatives_number, representatives_of, powers_of, taken_of, label_of, label_number, label_answer, fill_number, labels_written};
 ghost use Rattle.labels.specs.Stored.{stored, no_representatives};
-ghost use Rattle.labels.specs.Filling.{root_power, scaled_from, negated_from, HalfTurn, ColumnZero};
+ghost use Rattle.labels.specs.Stretches.{root_power, scaled_from, negated_from, HalfTurn, ColumnZero};
 
 // The refusal numbers of 01: N, C or a cell is out of range; the candidates reach p; a lent slice
 // is too short.

@@ -1,3 +1,4 @@
 mod Moves
 pub mod ReaderLaws
 pub mod Worked
+pub mod Written

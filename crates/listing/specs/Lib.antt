@@ -3,4 +3,4 @@ pub mod Ends
 pub mod Places
 pub mod Cursor
 pub mod EndLaws
-pub mod Written
+pub mod Writing

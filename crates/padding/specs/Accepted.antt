@@ -25,7 +25,7 @@ use Rattle.pieces.specs.Finishing.{complete, all_used}
 use Rattle.pieces.proofs.FaultLaws.{row_good, word_fine}
 use Rattle.columns.specs.Sections.{contents_number, unpadded_number, unpadded_last, pieces_fault, after_pieces}
 use Rattle.listing.specs.Listing.{Words}
-use Rattle.listing.specs.Written.{Sound}
+use Rattle.listing.proofs.Written.{Sound}
 use Rattle.writer.specs.Besides.{besides}
 use Rattle.padding.specs.Padding.{given, length_of, padded_setting, filler_of, padded}
 use Rattle.padding.specs.PaddingLaws.{Good, Numbers, length_covers, good_columns, good_numbers, padded-s, padded-c}

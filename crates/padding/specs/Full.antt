@@ -18,7 +18,8 @@ use Rattle.pieces.specs.Opening.{room_to_open}
 use Rattle.columns.specs.SectionsLaws.{number_10, number_contents}
 use Rattle.claim.specs.Statement.{setting_for, Right}
 use Rattle.listing.specs.Listing.{Reading, Words, or_twenty, read, refused, six_sections, whole}
-use Rattle.listing.specs.Written.{written, Sound, read_sound}
+use Rattle.listing.specs.Writing.{written}
+use Rattle.listing.proofs.Written.{Sound, read_sound}
 use Rattle.stage.specs.Circuit.{stage_answer}
 use Rattle.stage.specs.CircuitLaws.{answer_refused, answer-taken, number-sections}
 use Rattle.stage.specs.Listed.{listed_answer, listed_left, listed_whole}

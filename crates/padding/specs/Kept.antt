@@ -16,7 +16,8 @@ use Rattle.selector.specs.Refusals.{count_of_gates}
 use Rattle.base.specs.Each.{Each, each_append}
 use Rattle.pieces.specs.RecordLaws.{Whole}
 use Rattle.listing.specs.Listing.{Words, read}
-use Rattle.listing.specs.Written.{written, Sound, read-written}
+use Rattle.listing.specs.Writing.{written}
+use Rattle.listing.proofs.Written.{Sound, read-written}
 use Rattle.writer.specs.Besides.{besides_upper, besides_lower}
 use Rattle.padding.specs.Padding.{given, least, length_of, filler_from, filler_of, stretched, padded, pad_number}
 use Rattle.padding.specs.PaddingLaws.{good, good_columns, length_covers, padded_rows}

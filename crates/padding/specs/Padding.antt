@@ -18,7 +18,7 @@ use Rattle.pieces.specs.Tables.{sum_rows}
 use Rattle.columns.specs.Sections.{unpadded_number}
 use Rattle.claim.specs.Statement.{setting_for}
 use Rattle.listing.specs.Listing.{Words, Reading, whole, refused, read}
-use Rattle.listing.specs.Written.{written}
+use Rattle.listing.specs.Writing.{written}
 use Rattle.writer.specs.Besides.{besides}
 use Rattle.writer.specs.Hand.{hand_answer, hand_left}
 use Rattle.writer.specs.declared.hand.Wrote.{Wrote}

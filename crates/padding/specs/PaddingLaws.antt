@@ -28,7 +28,8 @@ use Rattle.pieces.specs.Tables.{sum_rows}
 use Rattle.columns.specs.Sections.{unpadded_number, unpadded_last}
 use Rattle.claim.specs.Statement.{setting_for}
 use Rattle.listing.specs.Listing.{Words}
-use Rattle.listing.specs.Written.{written, counted, Sound}
+use Rattle.listing.specs.Writing.{written, counted}
+use Rattle.listing.proofs.Written.{Sound}
 use Rattle.padding.specs.Padding.{given, least, length_of, with_trace, padded_setting, filler_of, fillers, padded, planning_number, pad_number}
 use Rattle.padding.specs.PartsLaws.{fillers-long, stretched-long}
 use Rattle.padding.specs.Lengths.{one_in_range, power_in_range}

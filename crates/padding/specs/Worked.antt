@@ -20,7 +20,7 @@ use Rattle.pieces.specs.Tables.{sum_rows}
 use Rattle.pieces.specs.Finishing.{all_used, every_from}
 use Rattle.columns.specs.Sections.{unpadded_last, unpadded_number}
 use Rattle.listing.specs.Listing.{Words}
-use Rattle.listing.specs.Written.{written}
+use Rattle.listing.specs.Writing.{written}
 use Rattle.writer.specs.Besides.{besides}
 use Rattle.padding.specs.Padding.{filler_from, fillers, least, length_of, pad_number, padded, planning_number}
 

@@ -4,7 +4,7 @@ ghost use Rattle.listing.specs.Listing.{read, whole};
 ghost use Rattle.listing.specs.Places.{words_at};
 ghost use Rattle.writer.specs.Hand.{hand_answer, hand_left};
 ghost use Rattle.writer.specs.Put.{put};
-ghost use Rattle.listing.specs.Written.{written};
+ghost use Rattle.listing.specs.Writing.{written};
 ghost use Rattle.padding.specs.Padding.{padded, pad_number, pad_answer, pad_left};
 ghost use Rattle.padding.specs.Judging.{six_of};
 ghost use Rattle.padding.specs.Parts.{Small, Fitting, more_words, laid};

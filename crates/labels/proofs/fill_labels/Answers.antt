@@ -6,7 +6,7 @@ use Rattle.base.specs.Fills.{filled_list}
 use Rattle.labels.specs.Ranges.{ranges_fit}
 use Rattle.labels.specs.RangesLaws.{Ranges, ranges-fit, cells_fit}
 use Rattle.labels.specs.Labels.{representatives_number, representatives_of, label_of, fill_number, labels_written}
-use Rattle.labels.specs.Filling.{all_columns, half_turn}
+use Rattle.labels.proofs.Filling.{all_columns, half_turn}
 use Rattle.labels.proofs.LabelLaws.{column-zero, fill-number, written_is, written_refused}
 use Rattle.labels.proofs.fill_labels.Goals as goal
 

@@ -2,7 +2,7 @@
 use Rattle.std.proofs.Common.{◌≡◌, ap, ◌∙◌, ℕ, ◌+◌, ◌-◌, add-zero, arith, get_or}
 use Rattle.base.specs.Fills.{filled_none, filled_next}
 use Rattle.field.specs.Field.{fmul}
-use Rattle.labels.specs.Filling.{scaled_from}
+use Rattle.labels.specs.Stretches.{scaled_from}
 use Rattle.labels.proofs.materialize_x_by_non_residue.Goals as goal
 
 pub loop-r-init : goal.loop-r-init

@@ -1,7 +1,7 @@
 -- `labels::materialize_x_by_non_residue` meets its contract. The invariant: r words from `at` on are filled; the words read stand before `at`, and are the old ones.
 use Rattle.std.proofs.Common.{◌+◌, ◌-◌, ◌≤◌}
 use Rattle.base.specs.Fills.{Filled}
-use Rattle.labels.specs.Filling.{scaled_from}
+use Rattle.labels.specs.Stretches.{scaled_from}
 use Rattle.labels.proofs.materialize_x_by_non_residue.Given as goal
 
 abbrev pub invariant-loop-r : goal.invariant-loop-r

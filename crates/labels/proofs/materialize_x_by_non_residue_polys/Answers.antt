@@ -2,7 +2,7 @@
 use Rattle.std.proofs.Common.{◌≡◌, ◌-◌, one-mul, arith}
 use Rattle.base.specs.Fills.{filled_none}
 use Rattle.labels.specs.Labels.{label_of}
-use Rattle.labels.specs.Filling.{column_place, column-next}
+use Rattle.labels.proofs.Filling.{column_place, column-next}
 use Rattle.labels.proofs.materialize_x_by_non_residue_polys.Goals as goal
 
 pub loop-column-init : goal.loop-column-init

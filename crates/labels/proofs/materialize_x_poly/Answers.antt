@@ -1,5 +1,5 @@
 -- `labels::materialize_x_poly` meets its contract: the first half by `powers`, the second by `negate`.
-use Rattle.labels.specs.Filling.{power_halves}
+use Rattle.labels.proofs.Filling.{power_halves}
 use Rattle.labels.proofs.materialize_x_poly.Goals as goal
 
 pub returns : goal.returns

@@ -2,7 +2,7 @@
 use Rattle.std.proofs.Common.{◌≡◌, ap, ◌∙◌, ℕ, ◌+◌, ◌-◌, add-zero, arith, get_or}
 use Rattle.base.specs.Fills.{filled_none, filled_next}
 use Rattle.field.specs.Field.{fsub}
-use Rattle.labels.specs.Filling.{negated_from}
+use Rattle.labels.specs.Stretches.{negated_from}
 use Rattle.labels.proofs.negate.Goals as goal
 
 pub loop-r-init : goal.loop-r-init

@@ -1,7 +1,7 @@
 -- `labels::negate` meets its contract. The invariant: r words of the second half are filled; the words read stand before them, and are the old ones.
 use Rattle.std.proofs.Common.{◌+◌, ◌-◌, ◌≤◌}
 use Rattle.base.specs.Fills.{Filled}
-use Rattle.labels.specs.Filling.{negated_from}
+use Rattle.labels.specs.Stretches.{negated_from}
 use Rattle.labels.proofs.negate.Given as goal
 
 abbrev pub invariant-loop-r : goal.invariant-loop-r

@@ -1,7 +1,8 @@
 -- `labels::powers` meets its contract. The invariant: r words are filled, and x is the power of w that comes next.
 use Rattle.std.proofs.Common.{◌≡◌, ◌∙◌, ◌-◌, arith}
 use Rattle.base.specs.Fills.{filled_none, filled_next}
-use Rattle.labels.specs.Filling.{root_power, power_begin, power_next}
+use Rattle.labels.specs.Stretches.{root_power}
+use Rattle.labels.proofs.Filling.{power_begin, power_next}
 use Rattle.labels.proofs.powers.Goals as goal
 
 pub loop-r-init : goal.loop-r-init

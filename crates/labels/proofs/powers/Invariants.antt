@@ -1,7 +1,7 @@
 -- `labels::powers` meets its contract. The invariant: r words are filled, and x is the power of w that comes next.
 use Rattle.std.proofs.Common.{◌≡◌, ◌-◌, ◌≤◌}
 use Rattle.base.specs.Fills.{Filled}
-use Rattle.labels.specs.Filling.{root_power}
+use Rattle.labels.specs.Stretches.{root_power}
 use Rattle.labels.proofs.powers.Given as goal
 
 abbrev pub invariant-loop-r : goal.invariant-loop-r

@@ -6,7 +6,8 @@ use Rattle.pieces.specs.Records.{rows_of, tables_of}
 use Rattle.pieces.specs.RecordLaws.{Whole}
 use Rattle.listing.specs.Listing.{Words}
 use Rattle.listing.specs.Places.{words_at}
-use Rattle.listing.specs.Written.{written, Sound, read_sound}
+use Rattle.listing.specs.Writing.{written}
+use Rattle.listing.proofs.Written.{Sound, read_sound}
 use Rattle.writer.proofs.HandLaws.{answer-given, answer_refused, answer_short, hand_given, hand_refused, hand_short, handed-long}
 use Rattle.writer.specs.Put.{put}
 use Rattle.writer.specs.PutLaws.{put_front}

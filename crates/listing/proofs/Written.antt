@@ -20,19 +20,7 @@ use Rattle.pieces.specs.Records.{whole, cut, read_by, row_size, table_size, rows
 use Rattle.base.specs.Each.{Each}
 use Rattle.pieces.specs.RecordLaws.{Whole}
 use Rattle.listing.specs.Listing.{Taken, off, after, records, section, fixed, headed, Words, eight, ended, six_sections, or_twenty, read}
-
--- "Sections, each after its count"
-abbrev pub counted : ℕ → List ℕ → List ℕ → List ℕ
-counted n ws rest = n ∷ (ws ++ rest)
-
-unfoldable pub written : Words → List ℕ
-written w =
-    counted (length w.parameters) w.parameters
-    (counted (length w.gates / gate_words) w.gates
-    (counted (length (rows_of w.rows)) w.rows
-    (counted (length w.s_words) w.s_words
-    (counted (length w.cells) w.cells
-    (counted (length (tables_of w.tables)) w.tables [])))))
+use Rattle.listing.specs.Writing.{counted, written}
 
 -- what a listing can say
 pub record Sound (w : Words) : Type 0 where
