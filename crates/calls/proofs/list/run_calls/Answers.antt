@@ -1,71 +1,102 @@
 -- `calls::list::run_calls` meets its contract: counted first; then each call of the list is a step of the chain. The loop's invariant: the calls from the place on leave
--- what the whole list leaves. No call changes the plan. The measure is what is left of the list. Assumes nothing.
+-- what the whole list leaves. No call changes the plan. The measure is what is left of the list.
 use Rattle.std.proofs.Common.{◌≡◌, refl, sym, ap, ◌∙◌, ℕ, ◌+◌, ◌-◌, ◌*◌, ◌<◌, arith, length, get_or, take, drop, length-set}
 use Rattle.columns.specs.Given.{marked_of}
 use Rattle.claim.specs.Chain.{Kept, answer, left}
 use Rattle.calls.specs.Encoded.{Ran, call_by}
 use Rattle.calls.specs.EncodedLaws.{Fits, ran_20, ran_10, turn_start, turn_fits, turn_next, turn_end}
 use Rattle.calls.proofs.list.run_calls.Invariants.{within}
-use Rattle.calls.proofs.list.run_calls.Goals.{At-loop-at, In-loop-at, Start}
 use Rattle.calls.proofs.list.run_calls.Goals as goal
-
--- what is kept at the start
-abbrev start : Start → Kept
-start c =
-    let a = c.args in
-    within a.outline a.gates.now a.nodes.now a.counts a.used a.constants.now a.copies.now a.scratch.now a.tables.now
-
--- and at the loop's head
-abbrev kept : At-loop-at → Kept
-kept c =
-    let a = c.before.before.before.before.before.before.before.before.before.before.before.before.before.before.args in
-    let l = c.loop in
-    within a.outline a.gates.now a.nodes.now l.held l.marks l.constants l.copies l.scratch l.tables
-
--- in the loop the call at the place is all there, and there is room for its number
-there : (c : In-loop-at) → let a = c.args in let l = c.loop-at in Fits a.list.now l.at × (l.place < length l.numbers)
-there c =
-    let a = c.args in
-    let l = c.loop-at in
-    turn_fits a.list.now (start c.before.before.before.before.before.before.before.before.before.before.before.before.before.before.before) a.numbers.now l.at l.place (kept c.before) l.numbers l.invariant.6 (omega arith)
 
 pub returns-then-counted-lt1 : goal.returns-then-counted-lt1
 returns-then-counted-lt1 c =
     let a = c.args in
-    let e = ran_20 a.list.now (start c.before.before.before.before.before.before.before.before.before.before.before.before) a.numbers.now c.count_calls-counted.result c.count_calls-counted.ensures c.if-counted-lt1.true in
+    let start : Kept = within a.outline a.gates.now a.nodes.now a.counts a.used a.constants.now a.copies.now a.scratch.now a.tables.now in
+    let e = ran_20 a.list.now start a.numbers.now c.count_calls-counted.result c.count_calls-counted.ensures c.if-counted-lt1.true in
     record { value = c.give.ensures ∙ sym (ap (λ (y : Ran). marked_of y.answer) e); tables_after = sym (ap (λ (y : Ran). y.store) e); numbers_after = sym (ap (λ (y : Ran). y.numbers) e) }
 
 pub returns-then-numbers-counted : goal.returns-then-numbers-counted
 returns-then-numbers-counted c =
     let a = c.args in
-    let e = ran_10 a.list.now (start c.before.before.before.before.before.before.before.before.before.before.before.before.before.before) a.numbers.now c.count_calls-counted.result c.count_calls-counted.ensures (omega arith) c.if-numbers-counted.true in
+    let start : Kept = within a.outline a.gates.now a.nodes.now a.counts a.used a.constants.now a.copies.now a.scratch.now a.tables.now in
+    let e = ran_10 a.list.now start a.numbers.now c.count_calls-counted.result c.count_calls-counted.ensures (omega arith) c.if-numbers-counted.true in
     record { value = c.give-then-numbers-counted.ensures ∙ sym (ap (λ (y : Ran). marked_of y.answer) e); tables_after = sym (ap (λ (y : Ran). y.store) e); numbers_after = sym (ap (λ (y : Ran). y.numbers) e) }
 
 pub loop-at-init : goal.loop-at-init
 loop-at-init c =
     let a = c.args in
-    (omega arith, refl, refl, refl, refl, refl, turn_start a.list.now (start c.before.before.before.before.before.before.before.before.before.before.before.before.before) a.numbers.now c.count_calls-counted.result c.count_calls-counted.ensures (omega arith) (omega arith), omega arith)
+    let start : Kept = within a.outline a.gates.now a.nodes.now a.counts a.used a.constants.now a.copies.now a.scratch.now a.tables.now in
+    (omega arith, refl, refl, refl, refl, refl, turn_start a.list.now start a.numbers.now c.count_calls-counted.result c.count_calls-counted.ensures (omega arith) (omega arith), omega arith)
 
 pub overflow_add-start : goal.overflow_add-start
-overflow_add-start c = omega (arith, (there c.before).0.head)
+overflow_add-start c =
+    let a = c.args in
+    let start : Kept = within a.outline a.gates.now a.nodes.now a.counts a.used a.constants.now a.copies.now a.scratch.now a.tables.now in
+    let l = c.loop-at in
+    let kept : Kept = within a.outline a.gates.now a.nodes.now l.held l.marks l.constants l.copies l.scratch l.tables in
+    -- the call at the place is all there, and there is room for its number
+    let there : Fits a.list.now l.at × (l.place < length l.numbers) = turn_fits a.list.now start a.numbers.now l.at l.place kept l.numbers l.invariant.6 (omega arith) in
+    omega (arith, there.0.head)
 
 pub overflow_add-end : goal.overflow_add-end
-overflow_add-end c = omega (arith, (there c.before).0.head)
+overflow_add-end c =
+    let a = c.args in
+    let start : Kept = within a.outline a.gates.now a.nodes.now a.counts a.used a.constants.now a.copies.now a.scratch.now a.tables.now in
+    let l = c.loop-at in
+    let kept : Kept = within a.outline a.gates.now a.nodes.now l.held l.marks l.constants l.copies l.scratch l.tables in
+    -- the call at the place is all there, and there is room for its number
+    let there : Fits a.list.now l.at × (l.place < length l.numbers) = turn_fits a.list.now start a.numbers.now l.at l.place kept l.numbers l.invariant.6 (omega arith) in
+    omega (arith, there.0.head)
 
 pub bounds-list-at-in-loop-at : goal.bounds-list-at-in-loop-at
-bounds-list-at-in-loop-at c = omega (arith, (there c.before.before).0.head)
+bounds-list-at-in-loop-at c =
+    let a = c.args in
+    let start : Kept = within a.outline a.gates.now a.nodes.now a.counts a.used a.constants.now a.copies.now a.scratch.now a.tables.now in
+    let l = c.loop-at in
+    let kept : Kept = within a.outline a.gates.now a.nodes.now l.held l.marks l.constants l.copies l.scratch l.tables in
+    -- the call at the place is all there, and there is room for its number
+    let there : Fits a.list.now l.at × (l.place < length l.numbers) = turn_fits a.list.now start a.numbers.now l.at l.place kept l.numbers l.invariant.6 (omega arith) in
+    omega (arith, there.0.head)
 
 pub overflow_add-end-in-loop-at : goal.overflow_add-end-in-loop-at
-overflow_add-end-in-loop-at c = omega (arith, (there c.before.before).0.piece)
+overflow_add-end-in-loop-at c =
+    let a = c.args in
+    let start : Kept = within a.outline a.gates.now a.nodes.now a.counts a.used a.constants.now a.copies.now a.scratch.now a.tables.now in
+    let l = c.loop-at in
+    let kept : Kept = within a.outline a.gates.now a.nodes.now l.held l.marks l.constants l.copies l.scratch l.tables in
+    -- the call at the place is all there, and there is room for its number
+    let there : Fits a.list.now l.at × (l.place < length l.numbers) = turn_fits a.list.now start a.numbers.now l.at l.place kept l.numbers l.invariant.6 (omega arith) in
+    omega (arith, there.0.piece)
 
 pub slice_bounds-one_call-count : goal.slice_bounds-one_call-count
-slice_bounds-one_call-count c = omega (arith, (there c.before.before).0.piece)
+slice_bounds-one_call-count c =
+    let a = c.args in
+    let start : Kept = within a.outline a.gates.now a.nodes.now a.counts a.used a.constants.now a.copies.now a.scratch.now a.tables.now in
+    let l = c.loop-at in
+    let kept : Kept = within a.outline a.gates.now a.nodes.now l.held l.marks l.constants l.copies l.scratch l.tables in
+    -- the call at the place is all there, and there is room for its number
+    let there : Fits a.list.now l.at × (l.place < length l.numbers) = turn_fits a.list.now start a.numbers.now l.at l.place kept l.numbers l.invariant.6 (omega arith) in
+    omega (arith, there.0.piece)
 
 pub slice_bounds-one_call-start : goal.slice_bounds-one_call-start
-slice_bounds-one_call-start c = omega (arith, (there c.before.before).0.piece)
+slice_bounds-one_call-start c =
+    let a = c.args in
+    let start : Kept = within a.outline a.gates.now a.nodes.now a.counts a.used a.constants.now a.copies.now a.scratch.now a.tables.now in
+    let l = c.loop-at in
+    let kept : Kept = within a.outline a.gates.now a.nodes.now l.held l.marks l.constants l.copies l.scratch l.tables in
+    -- the call at the place is all there, and there is room for its number
+    let there : Fits a.list.now l.at × (l.place < length l.numbers) = turn_fits a.list.now start a.numbers.now l.at l.place kept l.numbers l.invariant.6 (omega arith) in
+    omega (arith, there.0.piece)
 
 pub slice_bounds-one_call-end : goal.slice_bounds-one_call-end
-slice_bounds-one_call-end c = omega (arith, (there c.before.before).0.piece)
+slice_bounds-one_call-end c =
+    let a = c.args in
+    let start : Kept = within a.outline a.gates.now a.nodes.now a.counts a.used a.constants.now a.copies.now a.scratch.now a.tables.now in
+    let l = c.loop-at in
+    let kept : Kept = within a.outline a.gates.now a.nodes.now l.held l.marks l.constants l.copies l.scratch l.tables in
+    -- the call at the place is all there, and there is room for its number
+    let there : Fits a.list.now l.at × (l.place < length l.numbers) = turn_fits a.list.now start a.numbers.now l.at l.place kept l.numbers l.invariant.6 (omega arith) in
+    omega (arith, there.0.piece)
 
 pub offset_bounds-numbers-place : goal.offset_bounds-numbers-place
 offset_bounds-numbers-place c =
@@ -73,7 +104,14 @@ offset_bounds-numbers-place c =
     omega (arith, small)
 
 pub bounds-numbers-place : goal.bounds-numbers-place
-bounds-numbers-place c = (there c.before.before.before.before.before.before.before.before.before.before.before.before.before.before.before.before).1
+bounds-numbers-place c =
+    let a = c.args in
+    let start : Kept = within a.outline a.gates.now a.nodes.now a.counts a.used a.constants.now a.copies.now a.scratch.now a.tables.now in
+    let l = c.loop-at in
+    let kept : Kept = within a.outline a.gates.now a.nodes.now l.held l.marks l.constants l.copies l.scratch l.tables in
+    -- the call at the place is all there, and there is room for its number
+    let there : Fits a.list.now l.at × (l.place < length l.numbers) = turn_fits a.list.now start a.numbers.now l.at l.place kept l.numbers l.invariant.6 (omega arith) in
+    there.1
 
 pub overflow_add-place : goal.overflow_add-place
 overflow_add-place c =
@@ -81,24 +119,33 @@ overflow_add-place c =
     omega (arith, small)
 
 pub loop-at-smaller : goal.loop-at-smaller
-loop-at-smaller c = omega (arith, (there c.before.before.before.before.before.before.before.before.before.before.before.before.before.before.before.before.before.before).0.piece)
+loop-at-smaller c =
+    let a = c.args in
+    let start : Kept = within a.outline a.gates.now a.nodes.now a.counts a.used a.constants.now a.copies.now a.scratch.now a.tables.now in
+    let l = c.loop-at in
+    let kept : Kept = within a.outline a.gates.now a.nodes.now l.held l.marks l.constants l.copies l.scratch l.tables in
+    -- the call at the place is all there, and there is room for its number
+    let there : Fits a.list.now l.at × (l.place < length l.numbers) = turn_fits a.list.now start a.numbers.now l.at l.place kept l.numbers l.invariant.6 (omega arith) in
+    omega (arith, there.0.piece)
 
 pub loop-at-preserved : goal.loop-at-preserved
 loop-at-preserved c =
     let a = c.args in
+    let start : Kept = within a.outline a.gates.now a.nodes.now a.counts a.used a.constants.now a.copies.now a.scratch.now a.tables.now in
     let l = c.loop-at in
+    let kept : Kept = within a.outline a.gates.now a.nodes.now l.held l.marks l.constants l.copies l.scratch l.tables in
+    -- the call at the place is all there, and there is room for its number
+    let there : Fits a.list.now l.at × (l.place < length l.numbers) = turn_fits a.list.now start a.numbers.now l.at l.place kept l.numbers l.invariant.6 (omega arith) in
     let o = c.one_call-told in
-    let f = there c.before.before.before.before.before.before.before.before.before.before.before.before.before.before.before.before.before.before in
     let ws = a.list.now in
-    let h : Kept = kept c.before.before.before.before.before.before.before.before.before.before.before.before.before.before.before.before.before.before in
     let e : (l.at + 2 + get_or ws (l.at + 1) 0) - (l.at + 2) ≡ get_or ws (l.at + 1) 0 = omega arith in (
-      f.0.piece,
+      there.0.piece,
       length-set l.numbers l.place o.result.number ∙ l.invariant.1,
-      o.auto.1.1.1.1.1.1.1.0 ∙ l.invariant.2,
-      o.auto.1.1.1.1.1.1.1.1.0 ∙ l.invariant.3,
-      o.auto.1.1.1.1.1.1.1.1.1.0 ∙ l.invariant.4,
-      o.auto.1.1.1.1.1.1.1.1.1.1.0 ∙ l.invariant.5,
-      turn_next ws (start c.before.before.before.before.before.before.before.before.before.before.before.before.before.before.before.before.before.before) a.numbers.now l.at l.place h l.numbers l.invariant.6 (omega arith) o.result o.new.1.1.1.1.1.1.1.0 o.new.1.1.1.1.1.1.1.1.0 o.new.1.1.1.1.1.1.1.1.1.0 o.new.1.1.1.1.1.1.1.1.1.1.0 (o.ensures.0 ∙ ap (λ (n : ℕ). marked_of (answer (call_by (get_or ws l.at 0) (take n (drop (l.at + 2) ws))) h)) e) (o.ensures.1 ∙ ap (λ (n : ℕ). left (call_by (get_or ws l.at 0) (take n (drop (l.at + 2) ws))) h) e),
+      o.auto.constants ∙ l.invariant.2,
+      o.auto.copies ∙ l.invariant.3,
+      o.auto.scratch ∙ l.invariant.4,
+      o.auto.tables ∙ l.invariant.5,
+      turn_next ws start a.numbers.now l.at l.place kept l.numbers l.invariant.6 (omega arith) o.result o.new.constants o.new.copies o.new.scratch o.new.tables (o.ensures.value ∙ ap (λ (n : ℕ). marked_of (answer (call_by (get_or ws l.at 0) (take n (drop (l.at + 2) ws))) kept)) e) (o.ensures.tables_after ∙ ap (λ (n : ℕ). left (call_by (get_or ws l.at 0) (take n (drop (l.at + 2) ws))) kept) e),
       omega arith,
     )
 
@@ -120,6 +167,8 @@ shape_of-tables c = c.loop-at.invariant.5
 pub returns : goal.returns
 returns c =
     let a = c.args in
+    let start : Kept = within a.outline a.gates.now a.nodes.now a.counts a.used a.constants.now a.copies.now a.scratch.now a.tables.now in
     let l = c.loop-at in
-    let e = turn_end a.list.now (start c.before.before.before.before.before.before.before.before.before.before.before.before.before.before.before.before) a.numbers.now l.at l.place (kept c.before.before) l.numbers l.invariant.6 (omega arith) in
+    let kept : Kept = within a.outline a.gates.now a.nodes.now l.held l.marks l.constants l.copies l.scratch l.tables in
+    let e = turn_end a.list.now start a.numbers.now l.at l.place kept l.numbers l.invariant.6 (omega arith) in
     record { value = c.give-2.ensures ∙ sym (ap (λ (y : Ran). marked_of y.answer) e); tables_after = sym (ap (λ (y : Ran). y.store) e); numbers_after = sym (ap (λ (y : Ran). y.numbers) e) }

@@ -12,7 +12,7 @@ returns-then-state-ne-STATE_WORDS c =
     let a = c.args in
     let r = c.run_over-told.ensures in
     let t = (ran_over a.state.now a.list.now a.numbers.now (store_of a.constants.now a.copies.now a.scratch.now a.tables.now)).answer in
-    (ap (λ (m : Marked). m.number) r.value, (list_kept t a.state.now c.if-state-ne-STATE_WORDS.true, r.numbers_after))
+    record { value = ap (λ (m : Marked). m.number) r.value; state_after = list_kept t a.state.now c.if-state-ne-STATE_WORDS.true; numbers_after = r.numbers_after; tables_after = r.tables_after }
 
 pub returns : goal.returns
 returns c =
@@ -20,4 +20,9 @@ returns c =
     let r = c.run_over-told.ensures in
     let g = c.give_marked_back.ensures in
     let t = (ran_over a.state.now a.list.now a.numbers.now (store_of a.constants.now a.copies.now a.scratch.now a.tables.now)).answer in
-    (g.value ∙ ap (λ (m : Marked). m.number) r.value, (g.state_after ∙ ap (λ (m : Marked). marked_after m a.state.now) r.value ∙ list_given t a.state.now c.if-state-ne-STATE_WORDS.false, r.numbers_after))
+    record {
+      value = g.value ∙ ap (λ (m : Marked). m.number) r.value;
+      state_after = g.state_after ∙ ap (λ (m : Marked). marked_after m a.state.now) r.value ∙ list_given t a.state.now c.if-state-ne-STATE_WORDS.false;
+      numbers_after = r.numbers_after;
+      tables_after = r.tables_after;
+    }

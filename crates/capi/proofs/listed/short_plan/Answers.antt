@@ -7,11 +7,11 @@ use Rattle.capi.proofs.listed.short_plan.Goals as goal
 pub returns-in-Whole : goal.returns-in-Whole
 returns-in-Whole c =
     let ws = c.args.listing.now in
-    let g = c.enum_told-1.given in
-    sym (ap short_plan (read_whole ws g.0.0 (sym g.1 ∙ c.sections_of-sections.ensures)))
+    let g = c.in-Whole in
+    sym (ap short_plan (read_whole ws g.field-0 (sym g.is ∙ c.sections_of-sections.ensures)))
 
 pub returns-in-Refused : goal.returns-in-Refused
 returns-in-Refused c =
     let ws = c.args.listing.now in
-    let g = c.sections-1.given in
-    sym (ap short_plan (read_refused ws g.0.0 (sym g.1 ∙ c.sections_of-sections.ensures)))
+    let g = c.in-Refused in
+    sym (ap short_plan (read_refused ws g.number (sym g.is ∙ c.sections_of-sections.ensures)))

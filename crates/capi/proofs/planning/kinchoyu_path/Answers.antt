@@ -12,12 +12,12 @@ use Rattle.capi.proofs.planning.kinchoyu_path.Goals as goal
 pub slice_bounds-gates-end : goal.slice_bounds-gates-end
 slice_bounds-gates-end c =
     let held : Plans c.args.plan.now c.outlined_at-held.result = plans c.args.plan.now c.outlined_at-held.result c.outlined_at-held.ensures c.if-held.true in
-    omega (arith, (held).long)
+    omega (arith, held.long)
 
 pub slice_bounds-nodes-end : goal.slice_bounds-nodes-end
 slice_bounds-nodes-end c =
     let held : Plans c.args.plan.now c.outlined_at-held.result = plans c.args.plan.now c.outlined_at-held.result c.outlined_at-held.ensures c.if-held.true in
-    omega (arith, (held).long)
+    omega (arith, held.long)
 
 pub returns-then-held : goal.returns-then-held
 returns-then-held c =
@@ -27,7 +27,7 @@ returns-then-held c =
     let answer = c.parts_path-path in
     let told : (c.bits-bits.result ∷ c.length-length.result ∷ c.bare-bare.result ∷ []) ≡ path_words answer.result.selection =
     rw (c.bits-bits.ensures, c.length-length.ensures, c.bare-bare.ensures) refl in
-    let both = path_called a.plan.now a.out.now a.gate _ answer.result _ _ (held).parts answer.ensures (h.ensures ∙ ap (λ (ws : List ℕ). handed ws a.out.now) told) c.with_room.ensures h.auto.1.0 in record { value = both.0; out_after = both.1 }
+    let both = path_called a.plan.now a.out.now a.gate _ answer.result _ _ held.parts answer.ensures (h.ensures ∙ ap (λ (ws : List ℕ). handed ws a.out.now) told) c.with_room.ensures h.auto.out in record { value = both.0; out_after = both.1 }
 
 pub returns : goal.returns
 returns c =

@@ -9,16 +9,16 @@ use Rattle.padding.proofs.padding.pad.Goals as goal
 pub pad_parts-requires : goal.pad_parts-requires
 pad_parts-requires c =
     let ws = c.args.words.now in
-    let g = c.listing-1.given in
-    read_whole ws g.0.0 (sym g.1 ∙ c.sections_of-listing.ensures)
+    let g = c.in-Whole in
+    read_whole ws g.sections (sym g.is ∙ c.sections_of-listing.ensures)
 
 pub returns-in-Whole : goal.returns-in-Whole
 unfolding pad_answer pad_left
 returns-in-Whole c =
     let a = c.args in
     let ws = a.words.now in
-    let g = c.listing-1.given in
-    let r = read_whole ws g.0.0 (sym g.1 ∙ c.sections_of-listing.ensures) in
+    let g = c.in-Whole in
+    let r = read_whole ws g.sections (sym g.is ∙ c.sections_of-listing.ensures) in
     let w = c.pad_parts.ensures in
     record { value = w.value ∙ ap (λ (x : Reading). pad_by x a.out.now) (sym r); out_after = w.out_after ∙ ap (λ (x : Reading). pad_left_by x a.out.now) (sym r) }
 
@@ -27,6 +27,6 @@ unfolding pad_answer pad_left
 returns-in-Refused c =
     let a = c.args in
     let ws = a.words.now in
-    let g = c.listing-in-Refused-1.given in
-    let r = read_refused ws g.0.0 (sym g.1 ∙ c.sections_of-listing.ensures) in
-    record { value = wrote_is _ g.0.0 0 c.refused.ensures.0 c.refused.ensures.1 ∙ ap (λ (x : Reading). pad_by x a.out.now) (sym r); out_after = ap (λ (x : Reading). pad_left_by x a.out.now) (sym r) }
+    let g = c.in-Refused in
+    let r = read_refused ws g.number (sym g.is ∙ c.sections_of-listing.ensures) in
+    record { value = wrote_is _ g.number 0 c.refused.ensures.0 c.refused.ensures.1 ∙ ap (λ (x : Reading). pad_by x a.out.now) (sym r); out_after = ap (λ (x : Reading). pad_left_by x a.out.now) (sym r) }

@@ -4,27 +4,26 @@ use Rattle.parameters.specs.Parameters.{parameter_words}
 use Rattle.writer.specs.Put.{put}
 use Rattle.writer.specs.PutLaws.{put_fits, put-length}
 use Rattle.padding.specs.PartsLaws.{put-after}
-use Rattle.padding.proofs.parts.put_parameters.Goals.{After-put_same}
 use Rattle.padding.proofs.parts.put_parameters.Goals as goal
 
 -- the part is all words but the first
 part : (ws : List ℕ) → take (length ws - 1) (drop 1 ws) ≡ drop 1 ws
 part ws = take_all (length ws - 1) (drop 1 ws) (omega (arith, length-drop 1 ws))
 
--- the count stands at the front
-counted : (c : After-put_same) → let o = c.args.out.now in c.put_same.new.out ≡ put 0 (parameter_words ∷ []) o
-counted c = c.put_same.ensures ∙ put_fits 0 (parameter_words ∷ []) c.args.out.now (omega (arith, c.requires.1))
-
 pub put_counted-requires : goal.put_counted-requires
 put_counted-requires c =
+    -- the count stands at the front
+    let counted : c.put_same.new.out ≡ put 0 (parameter_words ∷ []) c.args.out.now = c.put_same.ensures ∙ put_fits 0 (parameter_words ∷ []) c.args.out.now (omega (arith, c.requires.1)) in
     let ws = c.args.eight.now in
-    omega (arith, c.requires.0, c.requires.1, ap length (part ws), length-drop 1 ws, ap length (counted c.before.before.before.before), put-length 0 (parameter_words ∷ []) c.args.out.now (omega (arith, c.requires.1)))
+    omega (arith, c.requires.0, c.requires.1, ap length (part ws), length-drop 1 ws, ap length counted, put-length 0 (parameter_words ∷ []) c.args.out.now (omega (arith, c.requires.1)))
 
 pub returns : goal.returns
 returns c =
+    -- the count stands at the front
+    let counted : c.put_same.new.out ≡ put 0 (parameter_words ∷ []) c.args.out.now = c.put_same.ensures ∙ put_fits 0 (parameter_words ∷ []) c.args.out.now (omega (arith, c.requires.1)) in
     let ws = c.args.eight.now in
     let f = c.put_counted.ensures in
     let l = length-drop 1 ws in (
       omega (arith, f.0, ap length (part ws), l, c.requires.0),
-      put-after 0 (parameter_words ∷ []) (c.args.long ∷ drop 1 ws) c.args.out.now _ _ 1 (counted c.before.before.before.before.before.before.before) refl (f.1 ∙ ap (λ (v : List ℕ). put 1 (c.args.long ∷ v) c.put_same.new.out) (part ws)) (omega (arith, l, c.requires.0, c.requires.1)),
+      put-after 0 (parameter_words ∷ []) (c.args.long ∷ drop 1 ws) c.args.out.now _ _ 1 counted refl (f.1 ∙ ap (λ (v : List ℕ). put 1 (c.args.long ∷ v) c.put_same.new.out) (part ws)) (omega (arith, l, c.requires.0, c.requires.1)),
     )

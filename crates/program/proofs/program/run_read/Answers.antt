@@ -17,9 +17,9 @@ returns-then-bytes-ne0 c = c.put_refused-then-bytes-ne0.ensures ∙ ap (put (sin
 pub slice_bounds-run_words-end : goal.slice_bounds-run_words-end
 slice_bounds-run_words-end c =
     let w = c.read_words-many in
-    let l : length w.new.1.0 ≡ 8192 = w.auto.1.0 ∙ length-replicate {A = ℕ} 8192 0 in
-    let h : w.result ≤ length w.new.1.0 = omega (arith, w.ensures.0, l, length-replicate {A = ℕ} 8192 0) in
-    sym (length-take-le w.result w.new.1.0 h)
+    let l : length w.new.words ≡ 8192 = w.auto.words ∙ length-replicate {A = ℕ} 8192 0 in
+    let h : w.result ≤ length w.new.words = omega (arith, w.ensures.value, l, length-replicate {A = ℕ} 8192 0) in
+    sym (length-take-le w.result w.new.words h)
 
 pub returns : goal.returns
 returns c =
@@ -27,5 +27,5 @@ returns c =
     let w = c.read_words-many in
     let n : length a.bytes.now % 8 ≡ 0 = c.if-bytes-ne0.false in
     let h : length a.bytes.now / 8 ≤ length (replicate {A = ℕ} 8192 0) = omega (arith, c.if-bytes-gt-MOST_BYTES.false, length-replicate {A = ℕ} 8192 0) in
-    let e : take w.result w.new.1.0 ≡ words_of a.bytes.now = ap (λ (k : ℕ). take k w.new.1.0) w.ensures.0 ∙ ap (take (words_read a.bytes.now (replicate 8192 0))) w.ensures.1 ∙ words_whole a.bytes.now (replicate 8192 0) h in
+    let e : take w.result w.new.words ≡ words_of a.bytes.now = ap (λ (k : ℕ). take k w.new.words) w.ensures.value ∙ ap (take (words_read a.bytes.now (replicate 8192 0))) w.ensures.words_after ∙ words_whole a.bytes.now (replicate 8192 0) h in
     c.run_words.ensures ∙ ap (λ (ws : List ℕ). put (sink a.out.now 0) (printed ws)) e ∙ ap (put (sink a.out.now 0)) (text-words a.bytes.now (omega (arith, c.if-bytes-gt-MOST_BYTES.false)) n)

@@ -20,6 +20,6 @@ unfolding lent
 returns c =
     let a = c.args in
     let w = c.run_listing-staged in
-    let e : w.result.number ≡ (listed_answer a.words.now lent).number = ap (λ (r : Staged). r.number) w.ensures.0 in
+    let e : w.result.number ≡ (listed_answer a.words.now lent).number = ap (λ (r : Staged). r.number) w.ensures.value in
     c.put_report.ensures
-    ∙ ap (put (sink a.out.now 0)) (printed_by a.words.now w.result.plan _ _ _ _ (sym e ∙ c.if-staged-ne0.false) (ap (λ (r : Staged). r.plan) w.ensures.0) w.ensures.1)
+    ∙ ap (put (sink a.out.now 0)) (printed_by a.words.now w.result.plan _ _ _ _ (sym e ∙ c.if-staged-ne0.false) (ap (λ (r : Staged). r.plan) w.ensures.value) w.ensures.tables_after)

@@ -71,7 +71,7 @@ loop-i-preserved c =
     let s : l.from + a.trace ≡ (l.i + 1) * a.trace = omega (arith, l.invariant.0, suc-mul l.i a.trace) in
     let e : take (l.from + a.trace - l.from) (drop l.from a.words.now) ≡ column a.trace a.words.now l.i = part-column a.trace a.words.now l.from l.i l.invariant.0 in (
       s,
-      w.auto.1.1.1.1.0 ∙ l.invariant.1,
+      w.auto.out ∙ l.invariant.1,
       l.invariant.2
           ∙ columns_turn (sink l.out l.place) _ a.name.now a.trace a.words.now l.i a.many (omega (arith, c.loop-i-test.true))
           (w.ensures ∙ ap (λ (ws : List ℕ). put (sink l.out l.place) (a.name.now ++ field l.i ++ fields ws ++ newline)) e),

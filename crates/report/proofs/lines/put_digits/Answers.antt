@@ -16,7 +16,7 @@ pub loop-i-preserved : goal.loop-i-preserved
 loop-i-preserved c =
     let l = c.loop-i in
     let w = c.put_digit-place in (
-      w.auto.1.1.0 ∙ l.invariant.0,
+      w.auto.out ∙ l.invariant.0,
       λ path s.
           let v = l.invariant.1 path s in
           let h : l.i < length path = omega (arith, c.loop-i-test.true, s.steps_are) in

@@ -20,7 +20,7 @@ loop-gate-preserved c =
     let l = c.loop-gate in
     let w = c.put_path-place in
     let a = c.args in
-    (w.auto.1.1.1.0 ∙ l.invariant.0, l.invariant.1 ∙ paths_turn (sink l.out l.place) _ (plan_selector a.plan) l.gate a.plan.gate_count (omega arith) w.ensures)
+    (w.auto.out ∙ l.invariant.0, l.invariant.1 ∙ paths_turn (sink l.out l.place) _ (plan_selector a.plan) l.gate a.plan.gate_count (omega arith) w.ensures)
 
 pub shape_of-out : goal.shape_of-out
 shape_of-out c = c.loop-gate.invariant.0

@@ -3,34 +3,29 @@ use Rattle.std.proofs.Common.{leb, ap, ◌∙◌, arith, ℕ, ◌+◌, ◌*◌, 
 use Rattle.columns.specs.Intake.{setting_of}
 use Rattle.report.specs.Report.{table_columns}
 use Rattle.report.specs.ReportLaws.{few_constants, few_copies, by_tables, table-room, few_tables}
-use Rattle.tree.specs.SoundLaws.{Sound, sound}
-use Rattle.report.proofs.report.columns_there.Goals.{Start}
+use Rattle.tree.specs.SoundLaws.{sound}
 use Rattle.report.proofs.report.columns_there.Goals as goal
-
--- the plan is sound
-fine : (s : Start) → Sound s.args.plan
-fine s = sound s.args.plan s.pre
 
 small : (a n b : ℕ) → a ≤ b → n ≤ 65536 → a * n ≤ b * 65536
 small a n b h k = mul-le-mul h k
 
 pub overflow_add-plan : goal.overflow_add-plan
-overflow_add-plan c = let w = fine c.before.before.before.before in omega (arith, w.height, w.special)
+overflow_add-plan c = let w = sound c.args.plan c.requires in omega (arith, w.height, w.special)
 
 pub overflow_mul-plan : goal.overflow_mul-plan
-overflow_mul-plan c = let q = c.args.plan in let w = fine c.before.before.before.before.before in omega (arith, small (q.constants + q.specialised) q.trace 63 (omega (arith, w.height, w.special)) w.ranges.long)
+overflow_mul-plan c = let q = c.args.plan in let w = sound c.args.plan c.requires in omega (arith, small (q.constants + q.specialised) q.trace 63 (omega (arith, w.height, w.special)) w.ranges.long)
 
 pub returns-then-constants-plan : goal.returns-then-constants-plan
-returns-then-constants-plan c = few_constants (setting_of c.args.plan) c.args.constants.now c.args.copies.now c.args.tables.now c.if-constants-plan.taken
+returns-then-constants-plan c = few_constants (setting_of c.args.plan) c.args.constants.now c.args.copies.now c.args.tables.now c.if-constants-plan.true
 
 pub overflow_mul-plan-2 : goal.overflow_mul-plan-2
-overflow_mul-plan-2 c = let q = c.args.plan in let w = fine c.before.before.before.before.before.before.before in omega (arith, small q.copy q.trace 64 w.ranges.columns w.ranges.long)
+overflow_mul-plan-2 c = let q = c.args.plan in let w = sound c.args.plan c.requires in omega (arith, small q.copy q.trace 64 w.ranges.columns w.ranges.long)
 
 pub returns-then-copies-plan : goal.returns-then-copies-plan
-returns-then-copies-plan c = few_copies (setting_of c.args.plan) c.args.constants.now c.args.copies.now c.args.tables.now (omega (arith, c.if-constants-plan.left)) c.if-copies-plan.taken
+returns-then-copies-plan c = few_copies (setting_of c.args.plan) c.args.constants.now c.args.copies.now c.args.tables.now (omega (arith, c.if-constants-plan.false)) c.if-copies-plan.true
 
 pub overflow_mul-result : goal.overflow_mul-result
-overflow_mul-result c = let q = c.args.plan in let w = fine c.before.before.before.before.before.before.before.before.before.before in rw c.table_columns.ensures (omega (arith, small (table_columns (setting_of q)) q.trace 17 (few_tables (setting_of q) w.width) w.ranges.long))
+overflow_mul-result c = let q = c.args.plan in let w = sound c.args.plan c.requires in rw c.table_columns.ensures (omega (arith, small (table_columns (setting_of q)) q.trace 17 (few_tables (setting_of q) w.width) w.ranges.long))
 
 pub returns : goal.returns
-returns c = ap (λ (k : ℕ). leb (k * c.args.plan.trace) (length c.args.tables.now)) c.table_columns.ensures ∙ ap (λ (k : ℕ). leb k (length c.args.tables.now)) (table-room (setting_of c.args.plan)) ∙ by_tables (setting_of c.args.plan) c.args.constants.now c.args.copies.now c.args.tables.now (omega (arith, c.if-constants-plan.left)) (omega (arith, c.if-copies-plan.left))
+returns c = ap (λ (k : ℕ). leb (k * c.args.plan.trace) (length c.args.tables.now)) c.table_columns.ensures ∙ ap (λ (k : ℕ). leb k (length c.args.tables.now)) (table-room (setting_of c.args.plan)) ∙ by_tables (setting_of c.args.plan) c.args.constants.now c.args.copies.now c.args.tables.now (omega (arith, c.if-constants-plan.false)) (omega (arith, c.if-copies-plan.false))

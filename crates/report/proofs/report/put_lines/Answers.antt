@@ -4,45 +4,35 @@ use Rattle.octets.specs.Text.{sink, put}
 use Rattle.octets.specs.TextLaws.{then}
 use Rattle.pieces.specs.Setting.{constant_room, copy_room, table_room}
 use Rattle.columns.specs.Intake.{setting_of}
-use Rattle.tree.specs.SoundLaws.{Sound, sound}
+use Rattle.tree.specs.SoundLaws.{sound}
 use Rattle.tree.specs.Plan.{plan_selector}
 use Rattle.report.specs.Report.{plan_line, path_lines, column_lines, constant_name, copy_name, table_name, table_columns, ids_line, report_lines}
 use Rattle.report.specs.ReportLaws.{all_there, table-room, few_tables}
-use Rattle.report.proofs.report.put_lines.Goals.{Start}
 use Rattle.report.proofs.report.put_lines.Goals as goal
 
--- the plan is sound
-fine : (s : Start) → Sound s.args.plan
-fine s = sound s.args.plan s.pre.0
-
--- the columns are all there
-room : (s : Start) → (constant_room (setting_of s.args.plan) ≤ length s.args.constants.now) × (copy_room (setting_of s.args.plan) ≤ length s.args.copies.now) × (table_room (setting_of s.args.plan) ≤ length s.args.tables.now)
-room s = all_there (setting_of s.args.plan) s.args.constants.now s.args.copies.now s.args.tables.now s.pre.1
-
 pub overflow_add-height : goal.overflow_add-height
-overflow_add-height c = let w = fine c.before.before.before.before.before in omega (arith, w.height, w.special)
-
--- LEFT slice-aggregate-put-columns : tie.Need-slice-aggregate-put-columns
--- LEFT slice-aggregate-put-columns c = search rules
+overflow_add-height c = let w = sound c.args.plan c.requires.plan_value in omega (arith, w.height, w.special)
 
 pub put_columns-c-requires : goal.put_columns-c-requires
-put_columns-c-requires c = let w = fine c.before.before.before.before.before.before.before.before.before.before.before.before.before.before.before in ((room c.before.before.before.before.before.before.before.before.before.before.before.before.before.before.before).0, omega (arith, w.height, w.special), w.ranges.long)
-
--- LEFT slice-aggregate-put-columns-2 : tie.Need-slice-aggregate-put-columns-2
--- LEFT slice-aggregate-put-columns-2 c = search rules
+put_columns-c-requires c =
+    -- the columns are all there
+    let room : (constant_room (setting_of c.args.plan) ≤ length c.args.constants.now) × (copy_room (setting_of c.args.plan) ≤ length c.args.copies.now) × (table_room (setting_of c.args.plan) ≤ length c.args.tables.now) = all_there (setting_of c.args.plan) c.args.constants.now c.args.copies.now c.args.tables.now c.requires.tables_value in
+    let w = sound c.args.plan c.requires.plan_value in (room.0, omega (arith, w.height, w.special), w.ranges.long)
 
 pub put_columns-d-requires : goal.put_columns-d-requires
-put_columns-d-requires c = let w = fine c.before.before.before.before.before.before.before.before.before.before.before.before.before.before.before.before.before.before.before.before in ((room c.before.before.before.before.before.before.before.before.before.before.before.before.before.before.before.before.before.before.before.before).1, w.ranges.columns, w.ranges.long)
-
--- LEFT slice-aggregate-put-columns-3 : tie.Need-slice-aggregate-put-columns-3
--- LEFT slice-aggregate-put-columns-3 c = search rules
+put_columns-d-requires c =
+    -- the columns are all there
+    let room : (constant_room (setting_of c.args.plan) ≤ length c.args.constants.now) × (copy_room (setting_of c.args.plan) ≤ length c.args.copies.now) × (table_room (setting_of c.args.plan) ≤ length c.args.tables.now) = all_there (setting_of c.args.plan) c.args.constants.now c.args.copies.now c.args.tables.now c.requires.tables_value in
+    let w = sound c.args.plan c.requires.plan_value in (room.1, w.ranges.columns, w.ranges.long)
 
 pub put_columns-e-requires : goal.put_columns-e-requires
 put_columns-e-requires c =
-    let w = fine c.before.before.before.before.before.before.before.before.before.before.before.before.before.before.before.before.before.before.before.before.before.before.before.before.before.before in
+    -- the columns are all there
+    let room : (constant_room (setting_of c.args.plan) ≤ length c.args.constants.now) × (copy_room (setting_of c.args.plan) ≤ length c.args.copies.now) × (table_room (setting_of c.args.plan) ≤ length c.args.tables.now) = all_there (setting_of c.args.plan) c.args.constants.now c.args.copies.now c.args.tables.now c.requires.tables_value in
+    let w = sound c.args.plan c.requires.plan_value in
     let q = c.args.plan in
     let e : c.table_columns.result ≡ table_columns (setting_of q) = c.table_columns.ensures in
-    (rw e (rw (table-room (setting_of q)) (room c.before.before.before.before.before.before.before.before.before.before.before.before.before.before.before.before.before.before.before.before.before.before.before.before.before.before).2), omega (arith, e, few_tables (setting_of q) w.width), w.ranges.long)
+    (rw e (rw (table-room (setting_of q)) room.2), omega (arith, e, few_tables (setting_of q) w.width), w.ranges.long)
 
 pub returns : goal.returns
 unfolding report_lines

@@ -12,19 +12,19 @@ returns-then-number-ne0 c =
     let a = c.args in
     let b = store_of a.constants.now a.copies.now a.scratch.now a.tables.now in
     let e = c.sections_number-number.ensures in
-    record { value = e; tables_after = planned_refused a.plan a.rows.now a.s-words.now a.cells.now a.table-words.now b (λ z. c.if-number-ne0.true (e ∙ z)) }
+    record { value = e; tables_after = planned_refused a.plan a.rows.now a.s_words.now a.cells.now a.table_words.now b (λ z. c.if-number-ne0.true (e ∙ z)) }
 
 pub shape_of-constants : goal.shape_of-constants
-shape_of-constants c = c.give_sections.auto.constants ∙ c.before.before.before.before.before.before.before.before.before.before.before.before.before.before.before.before.before.before.before.before.before.before.before.«open».auto.1.0
+shape_of-constants c = c.give_sections.auto.constants ∙ c.open-opened.auto.constants
 
 pub shape_of-copies : goal.shape_of-copies
-shape_of-copies c = c.give_sections.auto.copies ∙ c.before.before.before.before.before.before.before.before.before.before.before.before.before.before.before.before.before.before.before.before.before.before.before.«open».auto.1.1.0
+shape_of-copies c = c.give_sections.auto.copies ∙ c.open-opened.auto.copies
 
 pub shape_of-scratch : goal.shape_of-scratch
-shape_of-scratch c = c.give_sections.auto.scratch ∙ c.before.before.before.before.before.before.before.before.before.before.before.before.before.before.before.before.before.before.before.before.before.before.before.«open».auto.1.1.1.0
+shape_of-scratch c = c.give_sections.auto.scratch ∙ c.open-opened.auto.scratch
 
 pub shape_of-tables : goal.shape_of-tables
-shape_of-tables c = c.give_sections.auto.tables ∙ c.before.before.before.before.before.before.before.before.before.before.before.before.before.before.before.before.before.before.before.before.before.before.before.«open».auto.1.1.1.1.0
+shape_of-tables c = c.give_sections.auto.tables ∙ c.open-opened.auto.tables
 
 pub returns : goal.returns
 returns c =
@@ -33,9 +33,9 @@ returns c =
     let b = store_of a.constants.now a.copies.now a.scratch.now a.tables.now in
     let n = c.sections_number-number.ensures in
     let z = sym n ∙ c.if-number-ne0.false in
-    let o = c.before.before.before.before.before.before.before.before.before.before.before.before.before.before.before.before.before.before.before.before.before.before.before.«open» in
+    let o = c.open-opened in
     let s = o.result.state in
-    let ks = calls a.rows.now a.s-words.now a.cells.now a.table-words.now in
-    let h = by_opening q b o.result o.new.1.0 o.new.1.1.0 o.new.1.1.1.0 o.new.1.1.1.1.0 o.ensures.0 o.ensures.1 in
+    let ks = calls a.rows.now a.s_words.now a.cells.now a.table_words.now in
+    let h = by_opening q b o.result o.new.constants o.new.copies o.new.scratch o.new.tables o.ensures.value o.ensures.tables_after in
     let g = c.give_sections.ensures in
-    record { value = sym c.if-number-ne0.false ∙ n; tables_after = g ∙ ap (λ (k : Kept). (chained ks k).store) h ∙ planned-taken q a.rows.now a.s-words.now a.cells.now a.table-words.now b z }
+    record { value = sym c.if-number-ne0.false ∙ n; tables_after = g ∙ ap (λ (k : Kept). (chained ks k).store) h ∙ planned-taken q a.rows.now a.s_words.now a.cells.now a.table_words.now b z }

@@ -8,45 +8,10 @@ use Rattle.columns.specs.Sections.{sections_number}
 use Rattle.stage.specs.Circuit.{stage_number, stage_left}
 use Rattle.stage.specs.CircuitLaws.{number_planning, number-sections, answer_refused, answer-taken, planned_left, left-planned}
 use Rattle.stage.specs.declared.circuit.Staged.{Staged}
-use Rattle.stage.proofs.circuit.run_sections.Goals.{After-run_planned-refusal, Else-planned-ne0}
 use Rattle.stage.proofs.circuit.run_sections.Goals as goal
 
 abbrev staged : ℕ → Plan → Staged
 staged n q = record { number = n; plan = q }
-
--- planning accepted, with the plan that it gives
-accepted : (c : Else-planned-ne0) → let a = c.args in plan_number a.parameters a.gates.now ≡ 0
-accepted c = sym (ap (λ (y : Planned). y.number) c.plan-planned.ensures) ∙ c.if-planned-ne0.false
-
-given : (c : Else-planned-ne0) → let a = c.args in c.plan-planned.result.plan ≡ planned a.parameters a.gates.now
-given c = ap (λ (y : Planned). y.plan) c.plan-planned.ensures
-
--- the planned run's number and words are the whole call's
-number_is : (c : After-run_planned-refusal) → let a = c.args in
-    c.run_planned-refusal.result ≡ stage_number a.parameters a.gates.now a.rows.now a.s-words.now a.cells.now a.table-words.now (store_of a.constants.now a.copies.now a.scratch.now a.tables.now)
-number_is c =
-    let a = c.args in
-    let ps = a.parameters in
-    let gs = a.gates.now in
-    let b = store_of a.constants.now a.copies.now a.scratch.now a.tables.now in
-    let r = a.rows.now in
-    let s = a.s-words.now in
-    let k = a.cells.now in
-    let t = a.table-words.now in
-    c.run_planned-refusal.ensures.value ∙ ap (λ (y : Plan). sections_number (setting_of y) b r s k t) (given c.before.before.before.before.before.before) ∙ sym (number-sections ps gs r s k t b (accepted c.before.before.before.before.before.before))
-
-left_is : (c : After-run_planned-refusal) → let a = c.args in let l = c.run_planned-refusal.new in
-    store_of l.1.1.1.1.1.0 l.1.1.1.1.1.1.0 l.1.1.1.1.1.1.1.0 l.1.1.1.1.1.1.1.1.0 ≡ stage_left a.parameters a.gates.now a.rows.now a.s-words.now a.cells.now a.table-words.now (store_of a.constants.now a.copies.now a.scratch.now a.tables.now)
-left_is c =
-    let a = c.args in
-    let ps = a.parameters in
-    let gs = a.gates.now in
-    let b = store_of a.constants.now a.copies.now a.scratch.now a.tables.now in
-    let r = a.rows.now in
-    let s = a.s-words.now in
-    let k = a.cells.now in
-    let t = a.table-words.now in
-    c.run_planned-refusal.ensures.tables_after ∙ ap (λ (y : Plan). planned_left y r s k t b) (given c.before.before.before.before.before.before) ∙ left-planned ps gs r s k t b (accepted c.before.before.before.before.before.before)
 
 pub returns-then-planned-ne0 : goal.returns-then-planned-ne0
 returns-then-planned-ne0 c =
@@ -55,9 +20,9 @@ returns-then-planned-ne0 c =
     let gs = a.gates.now in
     let b = store_of a.constants.now a.copies.now a.scratch.now a.tables.now in
     let r = a.rows.now in
-    let s = a.s-words.now in
+    let s = a.s_words.now in
     let k = a.cells.now in
-    let t = a.table-words.now in
+    let t = a.table_words.now in
     let p = c.plan-planned in
     let e : p.result.number ≡ plan_number ps gs = ap (λ (y : Planned). y.number) p.ensures in
     let d : plan_number ps gs ≢ 0 = λ z. c.if-planned-ne0.true (e ∙ z) in
@@ -71,10 +36,17 @@ returns-then-refusal-ne0 c =
     let gs = a.gates.now in
     let b = store_of a.constants.now a.copies.now a.scratch.now a.tables.now in
     let r = a.rows.now in
-    let s = a.s-words.now in
+    let s = a.s_words.now in
     let k = a.cells.now in
-    let t = a.table-words.now in
-    record { value = c.refused-then-refusal-ne0.ensures ∙ (answer_refused ps gs r s k t b c.run_planned-refusal.result (number_is c.before.before.before.before.before.before.before.before.before.before) c.if-refusal-ne0.true).0; tables_after = left_is c.before.before.before.before.before.before.before.before.before.before }
+    let t = a.table_words.now in
+    -- planning accepted, with the plan that it gives
+    let accepted : plan_number ps gs ≡ 0 = sym (ap (λ (y : Planned). y.number) c.plan-planned.ensures) ∙ c.if-planned-ne0.false in
+    let given : c.plan-planned.result.plan ≡ planned ps gs = ap (λ (y : Planned). y.plan) c.plan-planned.ensures in
+    -- the planned run's number and words are the whole call's
+    let n = c.run_planned-refusal in
+    let number_is : n.result ≡ stage_number ps gs r s k t b = n.ensures.value ∙ ap (λ (y : Plan). sections_number (setting_of y) b r s k t) given ∙ sym (number-sections ps gs r s k t b accepted) in
+    let left_is : store_of n.new.constants n.new.copies n.new.scratch n.new.tables ≡ stage_left ps gs r s k t b = n.ensures.tables_after ∙ ap (λ (y : Plan). planned_left y r s k t b) given ∙ left-planned ps gs r s k t b accepted in
+    record { value = c.refused-then-refusal-ne0.ensures ∙ (answer_refused ps gs r s k t b c.run_planned-refusal.result number_is c.if-refusal-ne0.true).0; tables_after = left_is }
 
 pub returns : goal.returns
 returns c =
@@ -83,7 +55,14 @@ returns c =
     let gs = a.gates.now in
     let b = store_of a.constants.now a.copies.now a.scratch.now a.tables.now in
     let r = a.rows.now in
-    let s = a.s-words.now in
+    let s = a.s_words.now in
     let k = a.cells.now in
-    let t = a.table-words.now in
-    record { value = ap (staged 0) (given c.before.before.before.before.before.before.before.before.before.before.before.before.before.before.before) ∙ (answer-taken ps gs r s k t b (sym (number_is c.before.before.before.before.before.before.before.before.before) ∙ c.if-refusal-ne0.false)).0; tables_after = left_is c.before.before.before.before.before.before.before.before.before }
+    let t = a.table_words.now in
+    -- planning accepted, with the plan that it gives
+    let accepted : plan_number ps gs ≡ 0 = sym (ap (λ (y : Planned). y.number) c.plan-planned.ensures) ∙ c.if-planned-ne0.false in
+    let given : c.plan-planned.result.plan ≡ planned ps gs = ap (λ (y : Planned). y.plan) c.plan-planned.ensures in
+    -- the planned run's number and words are the whole call's
+    let n = c.run_planned-refusal in
+    let number_is : n.result ≡ stage_number ps gs r s k t b = n.ensures.value ∙ ap (λ (y : Plan). sections_number (setting_of y) b r s k t) given ∙ sym (number-sections ps gs r s k t b accepted) in
+    let left_is : store_of n.new.constants n.new.copies n.new.scratch n.new.tables ≡ stage_left ps gs r s k t b = n.ensures.tables_after ∙ ap (λ (y : Plan). planned_left y r s k t b) given ∙ left-planned ps gs r s k t b accepted in
+    record { value = ap (staged 0) given ∙ (answer-taken ps gs r s k t b (sym number_is ∙ c.if-refusal-ne0.false)).0; tables_after = left_is }

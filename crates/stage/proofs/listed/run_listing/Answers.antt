@@ -11,9 +11,9 @@ returns-in-Whole c =
     let a = c.args in
     let ws = a.words.now in
     let b = store_of a.constants.now a.copies.now a.scratch.now a.tables.now in
-    let g = c.listing-1.given in
+    let g = c.in-Whole in
     let w = c.run_parts.ensures in
-    let k = listed_whole ws b (words_at ws g.0.0) (read_whole ws g.0.0 (sym g.1 ∙ c.sections_of-listing.ensures)) in
+    let k = listed_whole ws b (words_at ws g.sections) (read_whole ws g.sections (sym g.is ∙ c.sections_of-listing.ensures)) in
     record { value = w.value ∙ k.0; tables_after = w.tables_after ∙ k.1 }
 
 pub returns-in-Refused : goal.returns-in-Refused
@@ -21,6 +21,6 @@ returns-in-Refused c =
     let a = c.args in
     let ws = a.words.now in
     let b = store_of a.constants.now a.copies.now a.scratch.now a.tables.now in
-    let g = c.listing-in-Refused-1.given in
-    let k = listed_refused ws b g.0.0 (read_refused ws g.0.0 (sym g.1 ∙ c.sections_of-listing.ensures)) in
+    let g = c.in-Refused in
+    let k = listed_refused ws b g.number (read_refused ws g.number (sym g.is ∙ c.sections_of-listing.ensures)) in
     record { value = c.refused.ensures ∙ k.0; tables_after = k.1 }
