@@ -3,7 +3,7 @@ use Rattle.std.proofs.Common.{◌≡◌, ◌-◌, ◌≤◌, length}
 use Rattle.octets.proofs.input.fill.Given as goal
 
 abbrev pub invariant-loop-many : goal.invariant-loop-many
-invariant-loop-many l = (l.many ≤ length l.room) × (length l.room ≡ length l.initial.room)
+invariant-loop-many g l = (l.many ≤ length l.room) × (length l.room ≡ length l.initial.room)
 
 abbrev pub decreases-loop-many : goal.decreases-loop-many
-decreases-loop-many l = length l.room - l.many
+decreases-loop-many g l = length l.room - l.many
