@@ -6,7 +6,7 @@ use Rattle.std.proofs.Common.{length-drop, length-set, length-take-le, ◌∙◌
 use Rattle.std.proofs.Math.Decide.{ℕ_discrete}
 use Rattle.columns.specs.declared.intake.Intake.{Intake}
 use Rattle.encoding.specs.Encoding.{gates_from, intake_of, lookup_there, nodes_from, plan_length, plan_of, state_length, used_from}
-use Rattle.encoding.specs.EncodingLaws.{plan-none, plan_other, plan-read, state_other, state_read}
+use Rattle.encoding.proofs.EncodingLaws.{plan-none, plan_other, plan-read, state_other, state_read}
 use Rattle.pieces.specs.Records.{Read, cut, whole}
 use Rattle.pieces.specs.Rows.{marked}
 use Rattle.tree.specs.Plan.{zero_plan}

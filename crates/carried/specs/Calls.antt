@@ -20,7 +20,7 @@ use Rattle.columns.specs.declared.intake.Intake.{Intake}
 use Rattle.columns.specs.declared.intake.Taken.{Taken}
 use Rattle.parameters.specs.Parameters.{parameter_words, parameters_at}
 use Rattle.encoding.specs.Encoding.{counts_from, intake_of, phase_at, plan_length, progress_length, progress_of, progressed, state_length, used_from}
-use Rattle.encoding.specs.EncodingLaws.{state_read}
+use Rattle.encoding.proofs.EncodingLaws.{state_read}
 use Rattle.pieces.specs.Calls.{Call, cell_words, finishing, rows, s_words, table_words}
 use Rattle.pieces.specs.Setting.{Store}
 use Rattle.base.specs.Limits.{most_gates}

@@ -31,7 +31,7 @@ use Rattle.pieces.specs.Rows.{row_fault, rows_number}
 use Rattle.pieces.specs.Calls.{number, rows, run}
 use Rattle.columns.specs.Intake.{labels_of, setting_of}
 use Rattle.claim.specs.Chain.{Kept, answer}
-use Rattle.claim.specs.ChainLaws.{number-run}
+use Rattle.claim.proofs.ChainLaws.{number-run}
 use Rattle.claim.specs.Statement.{kept}
 use Rattle.cases.specs.Columns.{kept_known, known_fault, path-of, setting_known, setting_with}
 

@@ -27,7 +27,7 @@ use Rattle.columns.specs.Intake.{setting_of, open_answer, open_left}
 use Rattle.columns.specs.declared.intake.Taken.{Taken}
 use Rattle.claim.specs.Chain.{Kept, answer, left}
 use Rattle.claim.specs.Statement.{held_of, setting_for, Opened, kept}
-use Rattle.claim.specs.Theorem.{claim}
+use Rattle.claim.proofs.Theorem.{claim}
 use Rattle.cases.specs.Columns.{setting_known, old, lone, path₉, three, four, nop, two, p9_calls, x₉, accepts₆, accepts₉, known₉, found₉, labels₉, opens₉, kept₉}
 use Rattle.cases.specs.SaidOfOthers.{finished₉}
 

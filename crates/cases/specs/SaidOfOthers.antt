@@ -41,7 +41,7 @@ use Rattle.columns.specs.Intake.{labels_of, store_of}
 use Rattle.claim.specs.Chain.{Kept, answer}
 use Rattle.claim.specs.Statement.{product, RowOf, Stands, Has, SameColumns, Right, setting_for, kept, Finished}
 use Rattle.claim.specs.Model.{circuit_by, FinishesBy}
-use Rattle.claim.specs.Theorem.{claim}
+use Rattle.claim.proofs.Theorem.{claim}
 use Rattle.cases.specs.Columns.{setting_with, setting_known, kept_known, path-of, known_fault, old, lone, path₉, one, nop, two, p9_calls, p9_refused, x₉, accepts₉, known₉, found₉, labels₉, opens₉, p9}
 use Rattle.cases.specs.Listed.{parameters, gates, plan-number, plan, tree, plan_known, path_is}
 use Rattle.cases.specs.Drawn.{finished, circuit_known, drawn}

@@ -1,5 +1,4 @@
 -- Plans and states as words.
 pub mod Encoding
-pub mod EncodingLaws
-pub mod Held
+pub mod Holding
 mod Examples

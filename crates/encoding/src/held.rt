@@ -2,7 +2,7 @@
 // lent to what is asked of a plan and of a state in parts.
 ghost use Rattle.std.specs.Prelude.{◌≡◌, ◌≤◌, length};
 ghost use Rattle.encoding.specs.Encoding.{counts_at, plan_length, state_length};
-ghost use Rattle.encoding.specs.Held.{held_at, held_with, marks_read, no_plan, outline_there, outlined_at};
+ghost use Rattle.encoding.specs.Holding.{held_at, held_with, marks_read, no_plan, outline_there, outlined_at};
 
 use crate::encoding::{
     COUNT_AT, COUNTS_FROM, PHASE_AT, PLAN_WORDS, STATE_WORDS, TAIL_FROM, USED_FROM, lookup_fits,

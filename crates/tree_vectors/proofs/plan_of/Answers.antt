@@ -5,5 +5,5 @@ use Rattle.tree_vectors.proofs.plan_of.Goals as goal
 pub slice_bounds-plan-end : goal.slice_bounds-plan-end
 slice_bounds-plan-end c =
     let a = c.args in
-    let l : length a.t2 ≡ 1024 = search rules in
-    sym (length-take-le a.count a.t2 (omega arith))
+    let l : length a.words ≡ 1024 = search rules in
+    sym (length-take-le a.count a.words (omega arith))

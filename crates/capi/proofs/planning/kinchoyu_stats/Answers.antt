@@ -4,7 +4,8 @@ use Rattle.tree.specs.Plan.{plan_fault, plan_in}
 use Rattle.tree.specs.PlanLaws.{zero_fault}
 use Rattle.tree.specs.declared.plan.Plan.{Plan}
 use Rattle.encoding.specs.Encoding.{plan_of}
-use Rattle.encoding.specs.Held.{Plans, gates_in, nodes_in, plans, plans_none}
+use Rattle.encoding.specs.Holding.{gates_in, nodes_in}
+use Rattle.encoding.proofs.Held.{Plans, plans, plans_none}
 use Rattle.writer.specs.Hand.{hand_left, hand_number}
 use Rattle.capi.specs.Planning.{stats_words}
 use Rattle.capi.specs.PlanningLaws.{none-handed}

@@ -2,7 +2,7 @@
 use Rattle.std.proofs.Common.{drop, length, length-drop, length-set, length-take-le, ◌∙◌, ◌≡◌, refl, sym, arith}
 use Rattle.base.specs.Limits.{most_gates}
 use Rattle.encoding.specs.Encoding.{marks_at, phase_at, progress_in, used_from}
-use Rattle.encoding.specs.EncodingLaws.{counts_written, progressed_short}
+use Rattle.encoding.proofs.EncodingLaws.{counts_written, progressed_short}
 use Rattle.encoding.proofs.encoding.encode_counts.Goals as goal
 
 pub shape_of-words : goal.shape_of-words

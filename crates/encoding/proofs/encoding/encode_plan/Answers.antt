@@ -5,7 +5,7 @@ use Rattle.selector.specs.Gates.{gate_slots}
 use Rattle.selector.specs.Nodes.{node_slots}
 use Rattle.encoding.specs.Encoding.{count_at, plan_words}
 use Rattle.writer.proofs.HandLaws.{handed_short}
-use Rattle.encoding.specs.EncodingLaws.{plan-length, plan-written}
+use Rattle.encoding.proofs.EncodingLaws.{plan-length, plan-written}
 use Rattle.encoding.proofs.encoding.encode_plan.Goals as goal
 
 pub returns-then-words-lt-PLAN_WORDS : goal.returns-then-words-lt-PLAN_WORDS

@@ -2,7 +2,7 @@
 use Rattle.std.proofs.Common.{rules, length, length-set, ◌∙◌, ◌≡◌, sym}
 use Rattle.base.specs.Limits.{most_gates}
 use Rattle.encoding.specs.Encoding.{phase_at, progress_in}
-use Rattle.encoding.specs.EncodingLaws.{progress_written, progressed_short}
+use Rattle.encoding.proofs.EncodingLaws.{progress_written, progressed_short}
 use Rattle.encoding.proofs.encoding.encode_progress.Goals as goal
 
 pub shape_of-words : goal.shape_of-words

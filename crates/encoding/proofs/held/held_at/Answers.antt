@@ -1,7 +1,7 @@
 -- `held::held_at` meets its contract: the length, then what the words of the plan in front hold, with the counts.
 use Rattle.std.proofs.Common.{eq-eqb, ne_eqb, length, ◌∙◌, refl}
 use Rattle.encoding.specs.Encoding.{state_length}
-use Rattle.encoding.specs.Held.{held_at}
+use Rattle.encoding.specs.Holding.{held_at}
 use Rattle.encoding.proofs.held.held_at.Goals as goal
 
 pub returns-then-words-ne-STATE_WORDS : goal.returns-then-words-ne-STATE_WORDS

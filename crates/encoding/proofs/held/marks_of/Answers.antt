@@ -3,7 +3,7 @@ use Rattle.std.proofs.Common.{eq-eqb, ne_eqb, length, replicate, ◌∙◌, sym,
 use Rattle.base.specs.Limits.{most_gates}
 use Rattle.base.specs.Pick.{pick_no, pick_yes}
 use Rattle.encoding.specs.Encoding.{marks_at, state_length, used_from}
-use Rattle.encoding.specs.EncodingLaws.{part-read}
+use Rattle.encoding.proofs.EncodingLaws.{part-read}
 use Rattle.encoding.proofs.held.marks_of.Goals as goal
 
 pub returns-then-words-eq-STATE_WORDS : goal.returns-then-words-eq-STATE_WORDS

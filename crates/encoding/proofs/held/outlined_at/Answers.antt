@@ -1,7 +1,7 @@
 -- `held::outlined_at` meets its contract: the length, then what the words of a plan hold.
 use Rattle.std.proofs.Common.{eq-eqb, ne_eqb, length, ◌∙◌, refl, sym}
 use Rattle.encoding.specs.Encoding.{plan_length}
-use Rattle.encoding.specs.Held.{outlined_at}
+use Rattle.encoding.specs.Holding.{outlined_at}
 use Rattle.encoding.proofs.held.outlined_at.Goals as goal
 
 pub returns-then-words-ne-PLAN_WORDS : goal.returns-then-words-ne-PLAN_WORDS

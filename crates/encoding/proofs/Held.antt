@@ -2,59 +2,26 @@
 -- state that the words encode.
 --
 -- Main definitions: `outlined_at`, `held_at`, `gates_in`, `nodes_in`. Main statements: `plans`, `plans_none`; `state_parts`, `holds`, `holds_none`, `none_fault`.
-use Rattle.std.specs.Prelude.{◌+◌, ◌<◌, ◌≤◌, ℕ, eqb, drop, get_or, length, replicate, take, Bool, false, true, List, ◌≢◌, ◌≡◌, refl}
+use Rattle.std.specs.Prelude.{◌+◌, ◌<◌, ◌≤◌, ℕ, drop, get_or, length, take, Bool, false, true, List, ◌≢◌, ◌≡◌, refl}
 use Rattle.std.proofs.Common.{eq-eqb, ne_eqb, length-drop, take-append-drop, get_or-take, length-take-le, true≢false, ◌∙◌, ap, sym, arith}
 use Rattle.std.proofs.lemmas.List.{drop-append-le, take-append-le}
 use Rattle.std.proofs.Math.Decide.{ℕ_discrete}
-use Rattle.base.specs.Limits.{most_gates}
-use Rattle.base.specs.Pick.{pick}
 use Rattle.parameters.specs.Parameters.{lookup_of, parameters_at}
 use Rattle.parameters.specs.declared.parameters.Parameters.{Parameters}
 use Rattle.selector.specs.Gates.{gate_slots}
 use Rattle.selector.specs.Nodes.{node_slots}
-use Rattle.tree.specs.Plan.{outline_of, plan_fault, plan_in, zero_plan}
+use Rattle.tree.specs.Plan.{plan_fault, plan_in, zero_plan}
 use Rattle.tree.specs.PlanLaws.{zero_fault}
-use Rattle.tree.specs.declared.plan.Outline.{Outline}
 use Rattle.tree.specs.declared.plan.Plan.{Plan}
 use Rattle.columns.specs.Given.{intake_in}
 use Rattle.columns.specs.Intake.{state_in, with_state, zero_intake}
 use Rattle.columns.specs.declared.intake.Intake.{Intake}
 use Rattle.columns.specs.declared.take.Counts.{Counts}
 use Rattle.encoding.specs.Encoding.{counts_at, count_at, gates_from, intake_of, lookup_fits, lookup_there, marks_at, nodes_from, plan_at, plan_length, plan_of, state_length, tail_from}
-use Rattle.encoding.specs.EncodingLaws.{plan-none, plan_other, plan-read, state_other, state_read}
+use Rattle.encoding.proofs.EncodingLaws.{plan-none, plan_other, plan-read, state_other, state_read}
 use Rattle.encoding.specs.declared.held.Held.{Held}
 use Rattle.encoding.specs.declared.held.Outlined.{Outlined}
-
--- the words of gates and nodes among a plan's or a state's
-abbrev pub gates_in : List ℕ → List ℕ
-gates_in ws = take gate_slots (drop gates_from ws)
-
-abbrev pub nodes_in : List ℕ → List ℕ
-nodes_in ws = take node_slots (drop nodes_from ws)
-
--- the plan without them
-abbrev pub outline_at : List ℕ → Outline
-outline_at ws = outline_of (plan_at ws)
-
-abbrev pub marks_read : List ℕ → List ℕ
-marks_read ws = pick (eqb (length ws) state_length) (marks_at ws) (replicate most_gates 0)
-
--- what the words of a plan hold
-abbrev pub no_plan : Outlined
-no_plan = record { fits = false; outline = outline_of zero_plan }
-
-abbrev pub outline_there : List ℕ → Outlined
-outline_there ws = pick (lookup_there ws) (record { fits = true; outline = outline_at ws }) no_plan
-
-unfoldable pub outlined_at : List ℕ → Outlined
-outlined_at ws = pick (eqb (length ws) plan_length) (outline_there ws) no_plan
-
--- and those of a state
-abbrev pub held_with : Outlined → Counts → Held
-held_with p k = record { fits = p.fits; outline = p.outline; counts = k }
-
-unfoldable pub held_at : List ℕ → Held
-held_at ws = pick (eqb (length ws) state_length) (held_with (outline_there ws) (counts_at ws)) (held_with no_plan zero_intake.counts)
+use Rattle.encoding.specs.Holding.{gates_in, held_at, held_with, marks_read, no_plan, nodes_in, outline_at, outlined_at}
 
 -- ---- what words hold that hold a plan
 pub record Plans (ws : List ℕ) (p : Outlined) : Type 0 where

@@ -14,9 +14,9 @@ use Rattle.pieces.specs.Setting.{Setting, Store}
 use Rattle.pieces.specs.Opening.{fresh}
 use Rattle.pieces.specs.Calls.{Call, run}
 use Rattle.columns.specs.Intake.{setting_of}
-use Rattle.claim.specs.ChainLaws.{kept_for}
+use Rattle.claim.proofs.ChainLaws.{kept_for}
 use Rattle.claim.specs.Statement.{Opened, kept}
-use Rattle.claim.specs.Theorem.{kept_run}
+use Rattle.claim.proofs.Theorem.{kept_run}
 
 -- a setting with other paths
 abbrev with_path : (ℕ → List ℕ) → Setting → Setting

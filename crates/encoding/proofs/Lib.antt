@@ -1,0 +1,3 @@
+-- Laws.
+pub mod Held
+pub mod EncodingLaws
