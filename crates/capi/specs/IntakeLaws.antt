@@ -32,7 +32,7 @@ use Rattle.tree.specs.declared.plan.Plan.{Plan}
 use Rattle.writer.specs.Hand.{handed}
 use Rattle.encoding.specs.Encoding.{intake_of, intake_words, marks_at, plan_of, plan_words, progress_in, progress_of, progressed, state_length}
 use Rattle.encoding.specs.Holding.{gates_in, held_at, marks_read, nodes_in}
-use Rattle.encoding.proofs.Held.{Holds, holds, none_fault}
+use Rattle.encoding.proofs.HeldLaws.{Holds, holds, none_fault}
 use Rattle.encoding.specs.declared.held.Held.{Held}
 use Rattle.writer.proofs.HandLaws.{handed_short}
 use Rattle.encoding.proofs.EncodingLaws.{plan_there, sound_again, state-length, state_progressed, state_written}

@@ -1,3 +1,3 @@
 -- Laws.
-pub mod Held
+pub mod HeldLaws
 pub mod EncodingLaws

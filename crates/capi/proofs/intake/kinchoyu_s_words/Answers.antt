@@ -1,7 +1,7 @@
 -- `intake::kinchoyu_s_words` meets its contract: the call on the parts that stand in the words is the call of the state that they encode.
 use Rattle.std.proofs.Common.{length, ◌≡◌, arith}
 use Rattle.encoding.specs.Encoding.{state_length}
-use Rattle.encoding.proofs.Held.{holds}
+use Rattle.encoding.proofs.HeldLaws.{holds}
 use Rattle.capi.specs.IntakeLaws.{words_back, words-none}
 use Rattle.capi.proofs.intake.kinchoyu_s_words.Goals as goal
 

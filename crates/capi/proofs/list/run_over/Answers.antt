@@ -6,7 +6,7 @@ use Rattle.columns.specs.Given.{intake_in, marked_of}
 use Rattle.columns.specs.declared.intake.Intake.{Intake}
 use Rattle.encoding.specs.Encoding.{intake_of, state_length}
 use Rattle.encoding.specs.Holding.{gates_in, nodes_in}
-use Rattle.encoding.proofs.Held.{holds, holds_none}
+use Rattle.encoding.proofs.HeldLaws.{holds, holds_none}
 use Rattle.capi.proofs.list.run_over.Goals as goal
 
 pub slice_bounds-run_calls-end : goal.slice_bounds-run_calls-end

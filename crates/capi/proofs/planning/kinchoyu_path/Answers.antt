@@ -3,7 +3,7 @@ use Rattle.std.proofs.Common.{ℕ, List, [], ◌∷◌, ◌∙◌, ◌≡◌, ap
 use Rattle.tree.specs.Plan.{plan_fault}
 use Rattle.tree.specs.PlanLaws.{zero_fault}
 use Rattle.encoding.specs.Encoding.{plan_of}
-use Rattle.encoding.proofs.Held.{Plans, plans, plans_none}
+use Rattle.encoding.proofs.HeldLaws.{Plans, plans, plans_none}
 use Rattle.writer.specs.Hand.{handed}
 use Rattle.capi.specs.Planning.{path_words}
 use Rattle.capi.specs.PlanningLaws.{path_called, path_none}

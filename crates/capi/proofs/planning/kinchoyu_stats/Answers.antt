@@ -5,7 +5,7 @@ use Rattle.tree.specs.PlanLaws.{zero_fault}
 use Rattle.tree.specs.declared.plan.Plan.{Plan}
 use Rattle.encoding.specs.Encoding.{plan_of}
 use Rattle.encoding.specs.Holding.{gates_in, nodes_in}
-use Rattle.encoding.proofs.Held.{Plans, plans, plans_none}
+use Rattle.encoding.proofs.HeldLaws.{Plans, plans, plans_none}
 use Rattle.writer.specs.Hand.{hand_left, hand_number}
 use Rattle.capi.specs.Planning.{stats_words}
 use Rattle.capi.specs.PlanningLaws.{none-handed}

@@ -4,7 +4,7 @@ use Rattle.tree.specs.Plan.{plan_fault, table_id_answer}
 use Rattle.tree.specs.PlanLaws.{zero_fault}
 use Rattle.tree.specs.declared.plan.TableId.{TableId}
 use Rattle.encoding.specs.Encoding.{plan_of}
-use Rattle.encoding.proofs.Held.{Plans, plans, plans_none}
+use Rattle.encoding.proofs.HeldLaws.{Plans, plans, plans_none}
 use Rattle.writer.specs.Hand.{hand_left, hand_number}
 use Rattle.capi.specs.Planning.{id_words}
 use Rattle.capi.specs.PlanningLaws.{id_none, none-handed}
