@@ -6,7 +6,6 @@ pub mod Listed
 pub mod Padded
 pub mod PlanningLaws
 pub mod Lengths
-pub mod IntakeLaws
 pub mod CallsLaws
 pub mod ListedLaws
 pub mod PaddedLaws

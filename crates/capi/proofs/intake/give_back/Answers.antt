@@ -2,7 +2,7 @@
 use Rattle.std.proofs.Common.{◌∙◌, refl}
 use Rattle.columns.specs.Given.{marked_with}
 use Rattle.encoding.specs.Encoding.{marks_at}
-use Rattle.capi.specs.IntakeLaws.{marked-given, marked-kept}
+use Rattle.capi.proofs.IntakeLaws.{marked-given, marked-kept}
 use Rattle.capi.proofs.intake.give_back.Goals as goal
 
 pub returns-then-given-eq0 : goal.returns-then-given-eq0

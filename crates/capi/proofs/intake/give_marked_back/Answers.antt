@@ -1,6 +1,6 @@
 -- `intake::give_marked_back` meets its contract: counts, marks and phase are written where the number is 0.
 use Rattle.std.proofs.Common.{◌∙◌, refl}
-use Rattle.capi.specs.IntakeLaws.{marked-given, marked-kept}
+use Rattle.capi.proofs.IntakeLaws.{marked-given, marked-kept}
 use Rattle.capi.proofs.intake.give_marked_back.Goals as goal
 
 pub returns-then-marked-eq0 : goal.returns-then-marked-eq0

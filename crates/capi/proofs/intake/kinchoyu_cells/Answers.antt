@@ -3,7 +3,7 @@ use Rattle.std.proofs.Common.{length, ◌≡◌, arith}
 use Rattle.pieces.specs.Setting.{cols}
 use Rattle.encoding.specs.Encoding.{state_length}
 use Rattle.encoding.proofs.HeldLaws.{holds}
-use Rattle.capi.specs.IntakeLaws.{cells_back, cells_none}
+use Rattle.capi.proofs.IntakeLaws.{cells_back, cells_none}
 use Rattle.capi.proofs.intake.kinchoyu_cells.Goals as goal
 
 pub slice_bounds-gates-end : goal.slice_bounds-gates-end

@@ -8,7 +8,7 @@ use Rattle.tree.specs.PlanLaws.{zero_fault}
 use Rattle.tree.specs.declared.plan.Plan.{Plan}
 use Rattle.encoding.specs.Encoding.{plan_of}
 use Rattle.encoding.proofs.HeldLaws.{Plans, plans, plans_none}
-use Rattle.capi.specs.IntakeLaws.{open_given, open_made-up, open_none, open_short}
+use Rattle.capi.proofs.IntakeLaws.{open_given, open_made-up, open_none, open_short}
 use Rattle.capi.proofs.intake.kinchoyu_open.Goals as goal
 
 pub slice_bounds-gates-end : goal.slice_bounds-gates-end

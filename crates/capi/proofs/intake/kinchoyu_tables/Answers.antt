@@ -2,7 +2,7 @@
 use Rattle.std.proofs.Common.{length, ◌≡◌, arith}
 use Rattle.encoding.specs.Encoding.{state_length}
 use Rattle.encoding.proofs.HeldLaws.{holds}
-use Rattle.capi.specs.IntakeLaws.{tables_back, tables-none}
+use Rattle.capi.proofs.IntakeLaws.{tables_back, tables-none}
 use Rattle.capi.proofs.intake.kinchoyu_tables.Goals as goal
 
 pub slice_bounds-gates-end : goal.slice_bounds-gates-end

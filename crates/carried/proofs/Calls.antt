@@ -13,7 +13,7 @@ use Rattle.calls.specs.Encoded.{Ran, calls_of, numbered, ran_by, untouched}
 use Rattle.capi.specs.Calls.{list_after}
 use Rattle.capi.specs.CallsLaws.{list_given, list_kept}
 use Rattle.capi.specs.Intake.{state_words_after}
-use Rattle.capi.specs.IntakeLaws.{PlanThere, cells_there, finish_there, progress_given, progress_kept, progress_state, rows_there, state_kept, tables_there, words_there}
+use Rattle.capi.proofs.IntakeLaws.{PlanThere, cells_there, finish_there, progress_given, progress_kept, progress_state, rows_there, state_kept, tables_there, words_there}
 use Rattle.claim.specs.Chain.{Kept, answer, chained}
 use Rattle.claim.specs.Statement.{Right, setting_for}
 use Rattle.columns.specs.declared.intake.Intake.{Intake}
@@ -24,9 +24,9 @@ use Rattle.encoding.proofs.EncodingLaws.{state_read}
 use Rattle.pieces.specs.Calls.{Call, cell_words, finishing, rows, s_words, table_words}
 use Rattle.pieces.specs.Setting.{Store}
 use Rattle.base.specs.Limits.{most_gates}
-use Rattle.carried.specs.Carried.{other_state}
+use Rattle.carried.proofs.Carried.{other_state}
 use Rattle.carried.specs.Exported.{AcceptsFinish, Lent, answer_to, called_by, call_numbers, circuit_of, exported, exported_all, exported_number, exported_numbers, opened_by}
-use Rattle.carried.specs.Lists.{answer_same, call_carried, decoded, exported_right, list_carried}
+use Rattle.carried.proofs.Lists.{answer_same, call_carried, decoded, exported_right, list_carried}
 
 abbrev lent : List ℕ → Store → Lent
 lent ws b = record { words = ws; store = b }

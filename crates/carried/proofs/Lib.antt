@@ -1,0 +1,4 @@
+-- Laws.
+pub mod Carried
+pub mod Lists
+pub mod Calls
