@@ -2,14 +2,11 @@
 --
 -- Main statements: `list_given`, `list_kept`.
 use Rattle.std.specs.Prelude.{ℕ, eqb, length, List, ◌≢◌, ◌≡◌}
-use Rattle.std.proofs.Common.{eq-eqb, ne_eqb, ◌∙◌, ap, sym}
+use Rattle.std.proofs.Common.{eq-eqb, ne_eqb, sym}
 use Rattle.base.specs.Pick.{pick_no, pick_yes}
-use Rattle.calls.specs.Encoded.{Ran, calls_of, ran_by}
-use Rattle.columns.specs.declared.intake.Intake.{Intake}
 use Rattle.columns.specs.declared.intake.Taken.{Taken}
-use Rattle.encoding.specs.Encoding.{intake_of, state_length}
-use Rattle.pieces.specs.Setting.{Store}
-use Rattle.capi.specs.Calls.{list_after, ran_over}
+use Rattle.encoding.specs.Encoding.{state_length}
+use Rattle.capi.specs.Calls.{list_after}
 use Rattle.capi.specs.Intake.{progress_after}
 
 pub list_given : (t : Taken) (old : List ℕ) → length old ≡ state_length → progress_after t old ≡ list_after t old

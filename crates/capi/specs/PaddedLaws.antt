@@ -7,7 +7,7 @@ use borrow.Author.Tests.{le-leb, lt-leb}
 use Rattle.std.proofs.Math.ListN.{drop, length, set}
 use mathlib.Core.List.{List, [], ◌++◌, ◌∷◌}
 use Rattle.std.proofs.Math.Path.{ap, refl, sym}
-use Rattle.base.specs.Pick.{pick, pick_no, pick_yes}
+use Rattle.base.specs.Pick.{pick_no, pick_yes}
 use Rattle.padding.specs.Padding.{pad_answer, pad_left}
 use Rattle.writer.specs.declared.hand.Wrote.{Wrote}
 use Rattle.capi.specs.Padded.{pad_call, pad_count, pad_out}

@@ -27,7 +27,7 @@ use Rattle.columns.specs.Intake.{labels_of}
 use Rattle.claim.specs.Statement.{Names, Keeps, Agrees, Leads, Reaches, Gap, Before, Permutation, product, RowOf, Right}
 use Rattle.claim.specs.Model.{circuit_by, FinishesBy}
 use Rattle.program.specs.Program.{lent}
-use Rattle.cases.specs.Columns.{setting_with, one, two}
+use Rattle.cases.specs.Columns.{setting_with}
 use Rattle.cases.specs.Listed.{parameters, gates, plan-number, plan, tree, plan_known, path_is, found_number, left}
 use Rattle.cases.specs.Drawn.{drawn}
 

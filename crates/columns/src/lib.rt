@@ -1,5 +1,6 @@
 // 01, 'Columns by pieces': constant, copy and table columns, given in pieces.
 #![tactic(auto)]
+
 mod cells;
 mod finishing;
 pub mod intake;

@@ -1,6 +1,7 @@
 // Variable and Witness, separate wrapped words as the original has them. Neither passes for a
 // row or a gate number.
 #![tactic(auto)]
+
 ghost use Rattle.std.specs.Prelude.{◌≡◌, leb};
 ghost use Rattle.pieces.specs.Cells.{placeholder, index_of};
 

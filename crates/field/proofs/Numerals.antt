@@ -1,7 +1,7 @@
 -- The only file with facts about numerals: powers that antt computes by squaring, and 01's worked sums and products.
 --
 -- Main statements: `power` (a power of two numerals is computed), `generator_is`, `generator_half`, P1 to P3.
-use Rattle.std.specs.Prelude.{◌≡◌, ℕ, ◌+◌, ◌-◌, ◌^◌, T, nat_lt, refl}
+use Rattle.std.specs.Prelude.{◌≡◌, ℕ, ◌-◌, ◌^◌, T, nat_lt, refl}
 use Rattle.std.proofs.Common.{sym, ap, ◌∙◌, lit<}
 use Rattle.base.specs.Powers.{fast, fast_is_power}
 use Rattle.field.specs.Field.{p, fadd, fmul, fpow, generator}

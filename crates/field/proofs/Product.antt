@@ -1,5 +1,5 @@
 -- The product of two words by their halves: what `omega` is handed, after which the rest is linear. Assumes nothing.
-use Rattle.std.proofs.Common.{◌≡◌, ℕ, ◌+◌, ◌*◌, ◌/◌, ◌%◌, ◌^◌, ◌<◌, ◌≤◌, sym, refl, ap, ◌∙◌, le_trans, add_assoc, mul_assoc, mul_comm, add-mul, mul-le-mul, add_comm, div-add-mod', mul-add, mul_left_comm, arith}
+use Rattle.std.proofs.Common.{◌≡◌, ℕ, ◌+◌, ◌*◌, ◌/◌, ◌%◌, ◌^◌, ◌<◌, ◌≤◌, sym, refl, ap, ◌∙◌, add_assoc, mul_assoc, mul_comm, add-mul, mul-le-mul, add_comm, div-add-mod', mul-add, mul_left_comm, arith}
 use native.Mathlib.Nat.{le-pred_of_lt, add_left_comm, mod-add-mod, mul-add-mod_self_right}
 use Rattle.base.specs.Modular.{mod-mul}
 

@@ -1,6 +1,7 @@
 // 01, 'Field': the Goldilocks field, of the words below p = 2^64 - 2^32 + 1. Each public function
 // reads any word modulo p, and its result is below p.
 #![tactic(auto)]
+
 ghost use Rattle.std.specs.Prelude.{◌≡◌, ◌+◌, ◌*◌, ◌/◌, ◌%◌, ◌^◌};
 ghost use Rattle.field.specs.Field.{p, fadd, fsub, fmul, fpow, is_non_residue};
 

@@ -1,11 +1,11 @@
 -- The columns found so far, as the code holds them.
 use Rattle.std.specs.Prelude.{replicate}
-use Prim.Native.Nat.{ℕ, ◌-◌}
+use Prim.Native.Nat.{ℕ}
 use Rattle.std.proofs.Math.ListN.{length}
 use Rattle.labels.specs.declared.NonResidues.{NonResidues}
 use Rattle.labels.specs.declared.RepresentativesAnswer.{RepresentativesAnswer}
 use Rattle.labels.specs.Ranges.{most_columns}
-use Rattle.labels.specs.Labels.{Columns, kept, column_words}
+use Rattle.labels.specs.Labels.{Columns, column_words}
 
 -- the columns as the code holds them, with the number of N-th powers taken so far
 abbrev pub stored : Columns → ℕ → NonResidues

@@ -1,5 +1,6 @@
 // 01, 'Labels': the label of a cell is its column's representative times a power of the domain generator.
 #![tactic(auto)]
+
 ghost use Rattle.std.specs.Prelude.{◌≡◌, ℕ, ◌+◌, ◌*◌, ◌≤◌, ◌<◌, length};
 ghost use Rattle.base.specs.Fills.{Filled};
 ghost use Rattle.field.specs.Field.{p, fpow, is_non_residue};

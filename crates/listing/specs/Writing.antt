@@ -1,10 +1,10 @@
 -- The listing of given sections.
 use mathlib.Core.List.{List, [], ◌∷◌, ◌++◌}
-use Prim.Native.Nat.{ℕ, ◌+◌, ◌/◌}
+use Prim.Native.Nat.{ℕ, ◌/◌}
 use Rattle.std.proofs.Math.ListN.{length}
 use Rattle.selector.specs.Gates.{gate_words}
 use Rattle.pieces.specs.Records.{rows_of, tables_of}
-use Rattle.listing.specs.Listing.{after, Words}
+use Rattle.listing.specs.Listing.{Words}
 
 -- "Sections, each after its count"
 abbrev pub counted : ℕ → List ℕ → List ℕ → List ℕ

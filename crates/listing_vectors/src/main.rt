@@ -2,12 +2,13 @@
 // program without its input and output, and what that prints is held to the recorded bytes. Writes how
 // many inputs and comparisons there were, and how many differed.
 #![tactic(auto)]
+
 ghost use Rattle.std.specs.Prelude.{◌≡◌, length};
 
 use octets::input::fill as read_input;
-use std::io;
 use program::program::{INPUT_ROOM, Input, OUTPUT_ROOM, Output, run_bytes};
 use replay::Replay;
+use std::io;
 
 // Room for the recording.
 fn space() -> [u8; 393216]

@@ -1,7 +1,7 @@
 -- Loops that write lines: what is left to write, row by row and table by table.
 --
 -- Main statements: `lines_through` (lines put end to end), and for loops `marks_turn`, `tables_turn`, `sum_turn`.
-use Rattle.std.specs.Prelude.{◌≡◌, List, [], ◌∷◌, ◌++◌, ℕ, suc, ◌+◌, ◌-◌, length, set}
+use Rattle.std.specs.Prelude.{◌≡◌, List, [], ◌∷◌, ◌++◌, ℕ, suc, ◌+◌, length, set}
 use Rattle.std.proofs.Math.Path.{refl, ap}
 use Rattle.std.proofs.Common.{◌∙◌, add-zero, add-suc, suc-add, add-one}
 use Rattle.pieces.specs.Records.{Read, whole}

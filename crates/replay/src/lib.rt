@@ -1,6 +1,7 @@
 // What programs that replay recorded answers share: words read one after the other, and a count of
 // the comparisons made and of those that failed.
 #![tactic(auto)]
+
 ghost use Rattle.std.specs.Prelude.{◌≡◌};
 ghost use Rattle.octets.specs.Words.{word_at};
 ghost use Rattle.replay.specs.Replay.{started, stepped, compared, noted};

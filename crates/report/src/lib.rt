@@ -1,4 +1,5 @@
 // 01, 'Listing': what the program `setup` prints.
 #![tactic(auto)]
+
 mod lines;
 pub mod report;

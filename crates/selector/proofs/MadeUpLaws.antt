@@ -24,7 +24,6 @@ use Rattle.selector.specs.SortLaws.{leaf_other, leaf_self, length-placed, times,
 use Rattle.selector.specs.Inner.{depth, Sound}
 use Rattle.selector.specs.Tree.{Tree, fork, leaf, size, standing}
 use Rattle.selector.specs.Walk.{Links}
-use borrow.Fn.PlainCycle.{is}
 
 -- a conjunction's parts
 and_left : (a b : Bool) → both a b ≡ true → a ≡ true

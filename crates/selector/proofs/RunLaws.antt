@@ -9,7 +9,7 @@ use Rattle.std.proofs.Math.Path.{refl}
 use Rattle.base.specs.Limits.{most_gates}
 use Rattle.base.specs.Pick.{pick}
 use Rattle.selector.specs.Flat.{Placed, Stands, grow_flat, grow_from, offer_node, placed, split_flat}
-use Rattle.selector.specs.FlatLaws.{Grown, Match, implements, length-split, spot}
+use Rattle.selector.specs.FlatLaws.{Grown, Match, implements, length-split}
 use Rattle.selector.specs.Inner.{Among, Distinct, Listed, depth, Holds}
 use Rattle.selector.specs.Leaves.{In, Once}
 use Rattle.selector.proofs.GrowthLaws.{Kept, Within, offer-kept, offer-within}

@@ -6,14 +6,13 @@ use lib.ListN.{replicate}
 use mathlib.Core.List.{List}
 use mathlib.Core.Logic.{inl, inr}
 use mathlib.Core.Option.{Option, none, some}
-use mathlib.Core.Path.{◌∙◌, ◌≡◌, ap, refl, sym}
+use mathlib.Core.Path.{◌∙◌, ◌≡◌, ap, refl}
 use native.Mathlib.Omega.{arith}
 use Rattle.selector.specs.Flat.{Stands, Stood}
 use Rattle.selector.specs.Gates.{constants_of, degree_at}
 use Rattle.selector.specs.Leaves.{In}
 use Rattle.selector.specs.Nodes.{gate_at, laid, left_at, most_levels, most_nodes, node_slots, put, right_at}
 use Rattle.selector.proofs.RecordLaws.{degree_small}
-use Rattle.selector.proofs.RunLaws.{whole}
 use Rattle.selector.specs.Search.{constants_over, degree_over, factor_of, tree_d, tree_k}
 use Rattle.selector.specs.Inner.{depth, Holds, Sound}
 use Rattle.selector.specs.Tree.{Tree, fork, leaf, size}

@@ -21,7 +21,6 @@ use Rattle.selector.specs.Nodes.{both_sides, gate_at, left_at, most_levels, righ
 use Rattle.selector.specs.Paths.{bits_of, path_to, turned}
 use Rattle.base.specs.Limits.{most_gates}
 use Rattle.selector.specs.Tree.{Tree, fork, leaf}
-use Rattle.tree.proofs.NodesLaws.{found}
 use Rattle.tree.specs.Placements.{PathWords, path_words, placed, spelled}
 use Rattle.tree.specs.declared.paths.Placement.{Placement}
 use borrow.Fn.PlainCycle.{is}

@@ -31,7 +31,6 @@ use Rattle.tree.specs.declared.nodes.Shape.{Shape}
 use Rattle.parameters.specs.declared.parameters.Parameters.{Parameters}
 use Rattle.tree.specs.declared.plan.Plan.{Plan}
 use Rattle.tree.specs.declared.planning.Planned.{Planned}
-use borrow.Fn.PlainCycle.{is}
 
 -- what a plan that passes 19 is known to have
 pub record Faultless (p : Plan) : Type 0 where

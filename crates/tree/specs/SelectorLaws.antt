@@ -3,7 +3,6 @@
 -- Main statements: `no-selector`, `only_placed`, `lone_empty`.
 use Rattle.std.specs.Prelude.{◌<◌, ℕ, Bool, false, true, List, [], ◌↔◌, ◌≢◌, ◌≡◌, refl}
 use Rattle.std.proofs.Common.{eq-eqb, lt-ltb, ltb-false, ltb-true, ◌∙◌, arith}
-use Rattle.base.specs.Pick.{pick}
 use Rattle.selector.specs.Gates.{kind_of}
 use Rattle.selector.specs.MadeUp.{wanted}
 use Rattle.selector.proofs.MadeUpLaws.{Sturdy, unwanted, wanted_few}

@@ -1,5 +1,6 @@
 // 01, 'Gates and tree': gates, the search for a tree, plans and paths.
 #![tactic(auto)]
+
 pub mod gate_rows;
 mod gates;
 mod made_up;

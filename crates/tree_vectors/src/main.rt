@@ -1,13 +1,14 @@
 // Replays recorded plans, paths, table-id indexes, refusals and made-up plans (standard input: the words of
 // tree.words) and writes how many records and words were compared, and how many differed.
 #![tactic(auto)]
+
 ghost use Rattle.std.specs.Prelude.{◌≡◌, length};
 
 use octets::input::fill as read_input;
-use std::io;
 use parameters::parameters::Parameters;
 use replay::Replay;
 use selector::{GATE_SLOTS, GateSlots, NODE_SLOTS, Nodes};
+use std::io;
 use tree::plan::Plan;
 use tree::planning::Planned;
 

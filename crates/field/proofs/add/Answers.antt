@@ -11,8 +11,8 @@ sum c =
     let x = c.reduce-x.result in
     let b = c.args.b in
     elim c.if-s-x.branch [
-      then-s-x w ↦ let e : c.if-s-x.w + p ≡ x + b = omega arith in sym (add-mod_right c.if-s-x.w p) ∙ ap (λ (n : ℕ). n % p) e
-    | else-s-x w ↦ let e : c.if-s-x.w ≡ x + b = omega arith in ap (λ (n : ℕ). n % p) e
+      | then-s-x w ↦ let e : c.if-s-x.w + p ≡ x + b = omega arith in sym (add-mod_right c.if-s-x.w p) ∙ ap (λ (n : ℕ). n % p) e
+      | else-s-x w ↦ let e : c.if-s-x.w ≡ x + b = omega arith in ap (λ (n : ℕ). n % p) e
     ]
 
 pub returns : goal.returns

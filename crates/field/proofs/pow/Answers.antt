@@ -29,8 +29,8 @@ pub loop-e-preserved : goal.loop-e-preserved
 loop-e-preserved c =
     let l = c.loop-e in
     elim c.if-e-eq1.branch [
-      then-e-eq1 w ↦ rw (w.r-is, w.mul-r.ensures, c.mul-b.ensures) (fmul_below l.r l.b, odd l.r l.b l.e w.if-e-eq1.true ∙ l.invariant.1)
-    | else-e-eq1 w ↦ rw (w.r-is, c.mul-b.ensures) (l.invariant.0, even l.r l.b l.e (omega arith) ∙ l.invariant.1)
+      | then-e-eq1 w ↦ rw (w.r-is, w.mul-r.ensures, c.mul-b.ensures) (fmul_below l.r l.b, odd l.r l.b l.e w.if-e-eq1.true ∙ l.invariant.1)
+      | else-e-eq1 w ↦ rw (w.r-is, c.mul-b.ensures) (l.invariant.0, even l.r l.b l.e (omega arith) ∙ l.invariant.1)
     ]
 
 pub returns : goal.returns

@@ -1,5 +1,5 @@
 -- `labels::is_absent` meets its contract. The invariant: whether x is absent is what is left to find out of the words from i on.
-use Rattle.std.proofs.Common.{rules, eq-eqb, ne_eqb, refl, sym, ◌∙◌, ◌-◌, arith, get_or}
+use Rattle.std.proofs.Common.{rules, eq-eqb, ne_eqb, refl, sym, ◌∙◌, arith, get_or}
 use Rattle.labels.proofs.Search.{absent-end, absent_step}
 use Rattle.labels.proofs.is_absent.Goals as goal
 

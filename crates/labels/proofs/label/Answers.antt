@@ -62,10 +62,13 @@ returns-then-cell-c c =
     let g = c.representatives-found.ensures in
     let same = label-number a.n a.c a.cell (fits) c.if-cell-c.true in
     let z : label_number a.n a.c a.cell ≡ 0 = same ∙ sym g.number_value ∙ c.if-found-ne0.false in
-    let w = c.pow-power.ensures ∙ ap (λ (x : ℕ). fpow x (a.cell % a.n)) c.domain_generator_for_size.ensures in record { number_value = sym z; value_value = c.mul.ensures
+    let w = c.pow-power.ensures ∙ ap (λ (x : ℕ). fpow x (a.cell % a.n)) c.domain_generator_for_size.ensures in record {
+      number_value = sym z;
+      value_value = c.mul.ensures
           ∙ ap (λ (l : List ℕ). fmul (get_or l (a.cell / a.n) 0) c.pow-power.result) g.values_value
           ∙ ap (fmul (get_or (representatives_of a.n a.c) (a.cell / a.n) 0)) w
-          ∙ sym (label_accepted a.n a.c a.cell z) }
+          ∙ sym (label_accepted a.n a.c a.cell z);
+    }
 
 pub returns-else-cell-c : goal.returns-else-cell-c
 unfolding label_number label_answer

@@ -1,5 +1,5 @@
 -- `labels::materialize_x_by_non_residue_polys` meets its contract. The invariant: the columns before `column` are filled, and column 0 stands.
-use Rattle.std.proofs.Common.{◌≡◌, ◌-◌, one-mul, arith}
+use Rattle.std.proofs.Common.{◌≡◌, one-mul, arith}
 use Rattle.base.specs.Fills.{filled_none}
 use Rattle.labels.specs.Labels.{label_of}
 use Rattle.labels.proofs.Filling.{column_place, column-next}
@@ -35,8 +35,7 @@ negate-requires c =
 
 pub loop-column-preserved : goal.loop-column-preserved
 loop-column-preserved c =
-    let l = c.loop-column in
-    (
+    let l = c.loop-column in (
       omega arith,
       omega (arith, c.loop-column-test.true),
       column-next c.args.n c.args.c l.column c.args.values.now c.args.copies.now l.copies _ _ c.requires.0 c.requires.1 l.invariant.0 l.invariant.2 c.materialize_x_by_non_residue.ensures c.negate.ensures,

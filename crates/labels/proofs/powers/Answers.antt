@@ -1,5 +1,5 @@
 -- `labels::powers` meets its contract. The invariant: r words are filled, and x is the power of w that comes next.
-use Rattle.std.proofs.Common.{◌≡◌, ◌∙◌, ◌-◌, arith}
+use Rattle.std.proofs.Common.{◌≡◌, ◌∙◌, arith}
 use Rattle.base.specs.Fills.{filled_none, filled_next}
 use Rattle.labels.specs.Stretches.{root_power}
 use Rattle.labels.proofs.Filling.{power_begin, power_next}

@@ -1,6 +1,6 @@
 -- `calls::list::count_calls` meets its contract. The loop's invariant: the calls passed and those from the place on are the list's. The measure is what is left of the
 -- list. Assumes nothing.
-use Rattle.std.proofs.Common.{◌-◌, arith}
+use Rattle.std.proofs.Common.{arith}
 use Rattle.calls.specs.EncodedLaws.{Fits, rest-start, rest-next, rest_unfit, rest_end}
 use Rattle.calls.proofs.list.count_calls.Goals as goal
 

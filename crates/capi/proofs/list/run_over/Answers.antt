@@ -1,6 +1,6 @@
 -- `list::run_over` meets its contract: the list is run from the state that the words encode, in its parts.
 use Rattle.std.proofs.Common.{ℕ, length, List, ◌∙◌, ◌≡◌, ap, arith}
-use Rattle.calls.specs.Encoded.{Ran, calls_of, ran_by}
+use Rattle.calls.specs.Encoded.{calls_of, ran_by}
 use Rattle.claim.specs.Keeping.{keeping}
 use Rattle.columns.specs.Given.{intake_in, marked_of}
 use Rattle.columns.specs.declared.intake.Intake.{Intake}

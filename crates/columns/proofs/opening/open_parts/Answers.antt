@@ -63,7 +63,7 @@ returns-then-number-ne0 c =
     let short-is : c.room_number-short.result ≡ pick (room_to_open (setting_of plan) store) 0 10 = let a = c.args in c.room_number-short.ensures a.gates.now a.nodes.now in
     let room : room_to_open (setting_of plan) store ≡ true = long_room (room_to_open (setting_of plan) store) c.room_number-short.result short-is c.if-short-ne0.false in
     let number_is : open_number (setting_of plan) store ≡ c.fill_labels-number.result =
-        open_own plan store fine room ∙ sym (c.fill_labels-number.ensures.value ∙ fill_is plan.trace plan.copy store.cells.copies (sound plan fine).ranges_fit_too (opened_long plan store room).1)
+    open_own plan store fine room ∙ sym (c.fill_labels-number.ensures.value ∙ fill_is plan.trace plan.copy store.cells.copies (sound plan fine).ranges_fit_too (opened_long plan store room).1)
     in
     let a = c.args in
     let q = plan in
@@ -124,7 +124,7 @@ returns c =
     let short-is : c.room_number-short.result ≡ pick (room_to_open (setting_of plan) store) 0 10 = let a = c.args in c.room_number-short.ensures a.gates.now a.nodes.now in
     let room : room_to_open (setting_of plan) store ≡ true = long_room (room_to_open (setting_of plan) store) c.room_number-short.result short-is c.if-short-ne0.false in
     let number_is : open_number (setting_of plan) store ≡ c.fill_labels-number.result =
-        open_own plan store fine room ∙ sym (c.fill_labels-number.ensures.value ∙ fill_is plan.trace plan.copy store.cells.copies (sound plan fine).ranges_fit_too (opened_long plan store room).1)
+    open_own plan store fine room ∙ sym (c.fill_labels-number.ensures.value ∙ fill_is plan.trace plan.copy store.cells.copies (sound plan fine).ranges_fit_too (opened_long plan store room).1)
     in
     let rooms-are : RoomsOf (setting_of plan) c.rooms_of-rooms.result = let a = c.args in c.rooms_of-rooms.ensures a.gates.now a.nodes.now in
     let a = c.args in

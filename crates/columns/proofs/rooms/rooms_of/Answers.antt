@@ -40,10 +40,10 @@ pub returns : goal.returns
 returns c gs ns =
     let m = mode_of c.args.outline.lookup in
     let table-words : c.if-mode-gt0.tables ≡ pick (ltb 0 m) ((width_of c.args.outline.lookup + 1) * c.args.outline.trace) 0 =
-        elim c.if-mode-gt0.branch [
-          then-mode-gt0 w ↦ w.tables-is ∙ rw (w.lookup_width.ensures, lt-ltb 0 m (omega (arith, c.mode.ensures, w.if-mode-gt0.true)))
-        | else-mode-gt0 w ↦ w.tables-is ∙ rw (le-ltb 0 m (omega (arith, c.mode.ensures, w.if-mode-gt0.false)))
-        ]
+    elim c.if-mode-gt0.branch [
+      | then-mode-gt0 w ↦ w.tables-is ∙ rw (w.lookup_width.ensures, lt-ltb 0 m (omega (arith, c.mode.ensures, w.if-mode-gt0.true)))
+      | else-mode-gt0 w ↦ w.tables-is ∙ rw (le-ltb 0 m (omega (arith, c.mode.ensures, w.if-mode-gt0.false)))
+    ]
     in
     let q = c.args.outline in
     let w = c.requires in

@@ -112,7 +112,10 @@ returns c =
     let a = c.args in
     let l = c.loop-i in
     let gs : Gates = gates_by a.many a.own.now a.barred.now in
-    let done : length a.piece.now ≤ l.i = c.loop-i-test.false in record { number_value = sym (passed_fine gs a.trace a.piece.now a.used.now a.count l.used l.row l.i l.invariant done); rows_value = λ _. (
+    let done : length a.piece.now ≤ l.i = c.loop-i-test.false in record {
+      number_value = sym (passed_fine gs a.trace a.piece.now a.used.now a.count l.used l.row l.i l.invariant done);
+      rows_value = λ _. (
         passed_count gs a.trace a.piece.now a.used.now a.count l.used l.row l.i l.invariant done,
         passed_marks gs a.trace a.piece.now a.used.now a.count l.used l.row l.i l.invariant done,
-      ) }
+      );
+    }

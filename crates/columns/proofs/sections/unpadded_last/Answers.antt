@@ -51,8 +51,8 @@ returns-then-all_used c =
     let a = c.args in
     -- the given gate is marked, where there is a mark for it
     let marks : c.if-gate.used ≡ set a.used a.gate 1 =
-        let l : length a.used ≡ 128 = search rules in
-        elim c.if-gate.branch [ then-gate w ↦ w.used-is | else-gate w ↦ w.used-is ∙ sym (set_out a.used a.gate 1 (omega (arith, w.if-gate.false, l))) ]
+    let l : length a.used ≡ 128 = search rules in
+    elim c.if-gate.branch [ then-gate w ↦ w.used-is | else-gate w ↦ w.used-is ∙ sym (set_out a.used a.gate 1 (omega (arith, w.if-gate.false, l))) ]
     in
     sym (pick_yes _ _ 16 (counted a.plan a.height a.s_words a.cells c.if-s_words-plan.false c.if-cells-plan.false) ∙ pick_yes (all_used a.plan.gate_count (set a.used a.gate 1)) 0 17 (ap (all_used a.plan.gate_count) (sym marks) ∙ sym c.all_used.ensures ∙ c.if-all_used.true))
 
@@ -62,7 +62,7 @@ returns c =
     let a = c.args in
     -- the given gate is marked, where there is a mark for it
     let marks : c.if-gate.used ≡ set a.used a.gate 1 =
-        let l : length a.used ≡ 128 = search rules in
-        elim c.if-gate.branch [ then-gate w ↦ w.used-is | else-gate w ↦ w.used-is ∙ sym (set_out a.used a.gate 1 (omega (arith, w.if-gate.false, l))) ]
+    let l : length a.used ≡ 128 = search rules in
+    elim c.if-gate.branch [ then-gate w ↦ w.used-is | else-gate w ↦ w.used-is ∙ sym (set_out a.used a.gate 1 (omega (arith, w.if-gate.false, l))) ]
     in
     sym (pick_yes _ _ 16 (counted a.plan a.height a.s_words a.cells c.if-s_words-plan.false c.if-cells-plan.false) ∙ pick_no (all_used a.plan.gate_count (set a.used a.gate 1)) 0 17 (ap (all_used a.plan.gate_count) (sym marks) ∙ sym c.all_used.ensures ∙ c.if-all_used.false))

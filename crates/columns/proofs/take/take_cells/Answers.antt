@@ -72,9 +72,9 @@ returns-then-fault-ne0 c =
     let upright : stands (setting_of held.plan) (state_of held) ≡ true = sym (c.stands.ensures []) ∙ c.if-stands.true in
     -- the piece's number is its first faulty word's
     let own : let s = held in let a = c.args in cells_number (setting_of s.plan) (state_of s) a.piece.now (cols a.copies.now a.scratch.now) ≡ c.cells_fault-fault.result =
-        let a = c.args in
-        let r = c.rooms_of-rooms.ensures a.gates.now a.nodes.now in
-        cells_own held a.piece.now (cols a.copies.now a.scratch.now) upright (omega (arith, c.if-copies-rooms.false, r.copies_are)) (omega (arith, c.if-scratch-rooms.false, r.scratch_is)) ∙ sym c.cells_fault-fault.ensures
+    let a = c.args in
+    let r = c.rooms_of-rooms.ensures a.gates.now a.nodes.now in
+    cells_own held a.piece.now (cols a.copies.now a.scratch.now) upright (omega (arith, c.if-copies-rooms.false, r.copies_are)) (omega (arith, c.if-scratch-rooms.false, r.scratch_is)) ∙ sym c.cells_fault-fault.ensures
     in
     let a = c.args in
     let k = cells_refused held a.piece.now (cols a.copies.now a.scratch.now) _ own c.if-fault-ne0.true in
@@ -88,8 +88,8 @@ place_cells-requires c =
     let counts : Counted (setting_of held.plan) (state_of held) = (stood (setting_of held.plan) (state_of held) upright).counts in
     -- a piece without a fault ends within its section
     let ends : let a = c.args in a.counts.cells + length a.piece.now ≤ a.outline.copy * a.outline.trace =
-        let a = c.args in
-        cells_room (a.outline.copy * a.outline.trace) a.outline.variables a.counts.cells a.piece.now counts.cells_in clean
+    let a = c.args in
+    cells_room (a.outline.copy * a.outline.trace) a.outline.variables a.counts.cells a.piece.now counts.cells_in clean
     in
     let a = c.args in
     let r = c.rooms_of-rooms.ensures a.gates.now a.nodes.now in record { piece_in_bounds = omega (arith, ends, c.if-copies-rooms.false, r.copies_are); by_index = λ j h l. omega (arith, cells_named (a.outline.copy * a.outline.trace) a.outline.variables a.counts.cells a.piece.now clean j h l, c.if-scratch-rooms.false, r.scratch_is) }
@@ -102,8 +102,8 @@ overflow_add-counts c =
     let counts : Counted (setting_of held.plan) (state_of held) = (stood (setting_of held.plan) (state_of held) upright).counts in
     -- a piece without a fault ends within its section
     let ends : let a = c.args in a.counts.cells + length a.piece.now ≤ a.outline.copy * a.outline.trace =
-        let a = c.args in
-        cells_room (a.outline.copy * a.outline.trace) a.outline.variables a.counts.cells a.piece.now counts.cells_in clean
+    let a = c.args in
+    cells_room (a.outline.copy * a.outline.trace) a.outline.variables a.counts.cells a.piece.now counts.cells_in clean
     in
     let no_fault : plan_fault held.plan ≡ 0 = plan_fine held upright in
     let fine : Sound held.plan = sound held.plan no_fault in
@@ -117,9 +117,9 @@ returns-then-stands c =
     let upright : stands (setting_of held.plan) (state_of held) ≡ true = sym (c.stands.ensures []) ∙ c.if-stands.true in
     -- the piece's number is its first faulty word's
     let own : let s = held in let a = c.args in cells_number (setting_of s.plan) (state_of s) a.piece.now (cols a.copies.now a.scratch.now) ≡ c.cells_fault-fault.result =
-        let a = c.args in
-        let r = c.rooms_of-rooms.ensures a.gates.now a.nodes.now in
-        cells_own held a.piece.now (cols a.copies.now a.scratch.now) upright (omega (arith, c.if-copies-rooms.false, r.copies_are)) (omega (arith, c.if-scratch-rooms.false, r.scratch_is)) ∙ sym c.cells_fault-fault.ensures
+    let a = c.args in
+    let r = c.rooms_of-rooms.ensures a.gates.now a.nodes.now in
+    cells_own held a.piece.now (cols a.copies.now a.scratch.now) upright (omega (arith, c.if-copies-rooms.false, r.copies_are)) (omega (arith, c.if-scratch-rooms.false, r.scratch_is)) ∙ sym c.cells_fault-fault.ensures
     in
     let a = c.args in
     let k = cells_taken held a.piece.now (cols a.copies.now a.scratch.now) (own ∙ c.if-fault-ne0.false) in

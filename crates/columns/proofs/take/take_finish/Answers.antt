@@ -73,9 +73,9 @@ scratch_fine-requires c =
     let held : Intake = intake_in c.args.outline c.args.gates.now c.args.nodes.now c.args.counts c.args.used in
     -- both buffers have their named words
     let room : let a = c.args in (a.outline.copy * a.outline.trace ≤ length a.copies.now) × (2 * a.outline.variables ≤ length a.scratch.now) =
-        let a = c.args in
-        let r = c.rooms_of-rooms.ensures a.gates.now a.nodes.now in
-        (omega (arith, c.if-copies-rooms.false, r.copies_are), omega (arith, c.if-scratch-rooms.false, r.scratch_is))
+    let a = c.args in
+    let r = c.rooms_of-rooms.ensures a.gates.now a.nodes.now in
+    (omega (arith, c.if-copies-rooms.false, r.copies_are), omega (arith, c.if-scratch-rooms.false, r.scratch_is))
     in
     let upright : stands (setting_of held.plan) (state_of held) ≡ true = sym (c.stands.ensures c.args.used) ∙ c.if-stands.true in
     let no_fault : plan_fault held.plan ≡ 0 = plan_fine held upright in
@@ -87,9 +87,9 @@ write_firsts-requires c =
     let held : Intake = intake_in c.args.outline c.args.gates.now c.args.nodes.now c.args.counts c.args.used in
     -- both buffers have their named words
     let room : let a = c.args in (a.outline.copy * a.outline.trace ≤ length a.copies.now) × (2 * a.outline.variables ≤ length a.scratch.now) =
-        let a = c.args in
-        let r = c.rooms_of-rooms.ensures a.gates.now a.nodes.now in
-        (omega (arith, c.if-copies-rooms.false, r.copies_are), omega (arith, c.if-scratch-rooms.false, r.scratch_is))
+    let a = c.args in
+    let r = c.rooms_of-rooms.ensures a.gates.now a.nodes.now in
+    (omega (arith, c.if-copies-rooms.false, r.copies_are), omega (arith, c.if-scratch-rooms.false, r.scratch_is))
     in
     let upright : stands (setting_of held.plan) (state_of held) ≡ true = sym (c.stands.ensures c.args.used) ∙ c.if-stands.true in
     let no_fault : plan_fault held.plan ≡ 0 = plan_fine held upright in
@@ -101,9 +101,9 @@ returns-then-scratch_fine c =
     let held : Intake = intake_in c.args.outline c.args.gates.now c.args.nodes.now c.args.counts c.args.used in
     -- both buffers have their named words
     let room : let a = c.args in (a.outline.copy * a.outline.trace ≤ length a.copies.now) × (2 * a.outline.variables ≤ length a.scratch.now) =
-        let a = c.args in
-        let r = c.rooms_of-rooms.ensures a.gates.now a.nodes.now in
-        (omega (arith, c.if-copies-rooms.false, r.copies_are), omega (arith, c.if-scratch-rooms.false, r.scratch_is))
+    let a = c.args in
+    let r = c.rooms_of-rooms.ensures a.gates.now a.nodes.now in
+    (omega (arith, c.if-copies-rooms.false, r.copies_are), omega (arith, c.if-scratch-rooms.false, r.scratch_is))
     in
     let all_there : let s = held in c.complete.result ≡ complete (setting_of s.plan) (state_of s) = let a = c.args in c.complete.ensures a.gates.now a.nodes.now a.used in
     let upright : stands (setting_of held.plan) (state_of held) ≡ true = sym (c.stands.ensures c.args.used) ∙ c.if-stands.true in
@@ -117,9 +117,9 @@ returns-then-all_used c =
     let held : Intake = intake_in c.args.outline c.args.gates.now c.args.nodes.now c.args.counts c.args.used in
     -- both buffers have their named words
     let room : let a = c.args in (a.outline.copy * a.outline.trace ≤ length a.copies.now) × (2 * a.outline.variables ≤ length a.scratch.now) =
-        let a = c.args in
-        let r = c.rooms_of-rooms.ensures a.gates.now a.nodes.now in
-        (omega (arith, c.if-copies-rooms.false, r.copies_are), omega (arith, c.if-scratch-rooms.false, r.scratch_is))
+    let a = c.args in
+    let r = c.rooms_of-rooms.ensures a.gates.now a.nodes.now in
+    (omega (arith, c.if-copies-rooms.false, r.copies_are), omega (arith, c.if-scratch-rooms.false, r.scratch_is))
     in
     let all_there : let s = held in c.complete.result ≡ complete (setting_of s.plan) (state_of s) = let a = c.args in c.complete.ensures a.gates.now a.nodes.now a.used in
     let upright : stands (setting_of held.plan) (state_of held) ≡ true = sym (c.stands.ensures c.args.used) ∙ c.if-stands.true in
@@ -133,9 +133,9 @@ returns-then-complete c =
     let held : Intake = intake_in c.args.outline c.args.gates.now c.args.nodes.now c.args.counts c.args.used in
     -- both buffers have their named words
     let room : let a = c.args in (a.outline.copy * a.outline.trace ≤ length a.copies.now) × (2 * a.outline.variables ≤ length a.scratch.now) =
-        let a = c.args in
-        let r = c.rooms_of-rooms.ensures a.gates.now a.nodes.now in
-        (omega (arith, c.if-copies-rooms.false, r.copies_are), omega (arith, c.if-scratch-rooms.false, r.scratch_is))
+    let a = c.args in
+    let r = c.rooms_of-rooms.ensures a.gates.now a.nodes.now in
+    (omega (arith, c.if-copies-rooms.false, r.copies_are), omega (arith, c.if-scratch-rooms.false, r.scratch_is))
     in
     let all_there : let s = held in c.complete.result ≡ complete (setting_of s.plan) (state_of s) = let a = c.args in c.complete.ensures a.gates.now a.nodes.now a.used in
     let upright : stands (setting_of held.plan) (state_of held) ≡ true = sym (c.stands.ensures c.args.used) ∙ c.if-stands.true in
@@ -149,9 +149,9 @@ returns-then-stands c =
     let held : Intake = intake_in c.args.outline c.args.gates.now c.args.nodes.now c.args.counts c.args.used in
     -- both buffers have their named words
     let room : let a = c.args in (a.outline.copy * a.outline.trace ≤ length a.copies.now) × (2 * a.outline.variables ≤ length a.scratch.now) =
-        let a = c.args in
-        let r = c.rooms_of-rooms.ensures a.gates.now a.nodes.now in
-        (omega (arith, c.if-copies-rooms.false, r.copies_are), omega (arith, c.if-scratch-rooms.false, r.scratch_is))
+    let a = c.args in
+    let r = c.rooms_of-rooms.ensures a.gates.now a.nodes.now in
+    (omega (arith, c.if-copies-rooms.false, r.copies_are), omega (arith, c.if-scratch-rooms.false, r.scratch_is))
     in
     let all_there : let s = held in c.complete.result ≡ complete (setting_of s.plan) (state_of s) = let a = c.args in c.complete.ensures a.gates.now a.nodes.now a.used in
     let upright : stands (setting_of held.plan) (state_of held) ≡ true = sym (c.stands.ensures c.args.used) ∙ c.if-stands.true in

@@ -52,7 +52,7 @@ returns-then-constants-rooms_of c =
     let held : Intake = intake_in c.args.outline c.args.gates.now c.args.nodes.now c.args.counts c.args.used in
     let no_fault : plan_fault held.plan ≡ 0 = let g = c.parts_rows-told in (gates-number held.plan g.result g.ensures).0 c.if-told-ne0.false in
     let upright : stands (setting_of held.plan) (state_of held) ≡ true =
-        let a = c.args in
+    let a = c.args in
     stands_counts held no_fault c.if-counts-ne-OPEN.false ∙ sym (c.counts_fit.ensures a.gates.now a.nodes.now a.used) ∙ c.if-counts_fit.true
     in
     let s = held in
@@ -68,7 +68,7 @@ test_rows-tested-requires c =
     let fine : Sound held.plan = sound held.plan no_fault in
     let gates : GatesOf held.plan c.parts_rows-told.result = gates-of held.plan c.parts_rows-told.result no_fault c.parts_rows-told.ensures in
     let counts : Counted (setting_of held.plan) (state_of held) =
-        let a = c.args in
+    let a = c.args in
     counted (setting_of held.plan) (state_of held) (sym (c.counts_fit.ensures a.gates.now a.nodes.now a.used) ∙ c.if-counts_fit.true)
     in
     let w = fine in
@@ -82,15 +82,15 @@ returns-then-tested-ne0 c =
     let no_fault : plan_fault held.plan ≡ 0 = let g = c.parts_rows-told in (gates-number held.plan g.result g.ensures).0 c.if-told-ne0.false in
     let gates : GatesOf held.plan c.parts_rows-told.result = gates-of held.plan c.parts_rows-told.result no_fault c.parts_rows-told.ensures in
     let upright : stands (setting_of held.plan) (state_of held) ≡ true =
-        let a = c.args in
+    let a = c.args in
     stands_counts held no_fault c.if-counts-ne-OPEN.false ∙ sym (c.counts_fit.ensures a.gates.now a.nodes.now a.used) ∙ c.if-counts_fit.true
     in
     -- the piece's number is its first faulty record's
     let own : let s = held in let a = c.args in rows_number (setting_of s.plan) (state_of s) a.piece.now a.constants.now ≡ c.test_rows-tested.result.number =
-        let s = held in
-        let a = c.args in
-        rows_own s a.piece.now a.constants.now upright room
-        ∙ sym (c.test_rows-tested.ensures.number_value ∙ gates_fault s.plan c.parts_rows-told.result gates a.outline.trace a.counts.rows (rows_of a.piece.now))
+    let s = held in
+    let a = c.args in
+    rows_own s a.piece.now a.constants.now upright room
+    ∙ sym (c.test_rows-tested.ensures.number_value ∙ gates_fault s.plan c.parts_rows-told.result gates a.outline.trace a.counts.rows (rows_of a.piece.now))
     in
     let a = c.args in
     let k = rows_refused held a.piece.now a.constants.now _ own c.if-tested-ne0.true in
@@ -119,15 +119,15 @@ returns-then-counts_fit c =
     let no_fault : plan_fault held.plan ≡ 0 = let g = c.parts_rows-told in (gates-number held.plan g.result g.ensures).0 c.if-told-ne0.false in
     let gates : GatesOf held.plan c.parts_rows-told.result = gates-of held.plan c.parts_rows-told.result no_fault c.parts_rows-told.ensures in
     let upright : stands (setting_of held.plan) (state_of held) ≡ true =
-        let a = c.args in
+    let a = c.args in
     stands_counts held no_fault c.if-counts-ne-OPEN.false ∙ sym (c.counts_fit.ensures a.gates.now a.nodes.now a.used) ∙ c.if-counts_fit.true
     in
     -- the piece's number is its first faulty record's
     let own : let s = held in let a = c.args in rows_number (setting_of s.plan) (state_of s) a.piece.now a.constants.now ≡ c.test_rows-tested.result.number =
-        let s = held in
-        let a = c.args in
-        rows_own s a.piece.now a.constants.now upright room
-        ∙ sym (c.test_rows-tested.ensures.number_value ∙ gates_fault s.plan c.parts_rows-told.result gates a.outline.trace a.counts.rows (rows_of a.piece.now))
+    let s = held in
+    let a = c.args in
+    rows_own s a.piece.now a.constants.now upright room
+    ∙ sym (c.test_rows-tested.ensures.number_value ∙ gates_fault s.plan c.parts_rows-told.result gates a.outline.trace a.counts.rows (rows_of a.piece.now))
     in
     let s = held in
     let a = c.args in

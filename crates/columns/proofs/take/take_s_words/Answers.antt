@@ -60,9 +60,9 @@ returns-then-fault-ne0 c =
     let upright : stands (setting_of held.plan) (state_of held) ≡ true = sym (c.stands.ensures []) ∙ c.if-stands.true in
     -- the piece's number is its first faulty word's
     let own : let s = held in let a = c.args in s_words_number (setting_of s.plan) (state_of s) a.piece.now a.constants.now ≡ c.s_words_fault-fault.result =
-        let a = c.args in
-        let r = c.rooms_of.ensures a.gates.now a.nodes.now in
-        words_own held a.piece.now a.constants.now upright (omega (arith, c.if-constants-rooms_of.false, r.constants_are)) ∙ sym c.s_words_fault-fault.ensures
+    let a = c.args in
+    let r = c.rooms_of.ensures a.gates.now a.nodes.now in
+    words_own held a.piece.now a.constants.now upright (omega (arith, c.if-constants-rooms_of.false, r.constants_are)) ∙ sym c.s_words_fault-fault.ensures
     in
     let a = c.args in
     let k = words_refused held a.piece.now a.constants.now _ own c.if-fault-ne0.true in
@@ -85,8 +85,8 @@ overflow_add-at c =
     let counts : Counted (setting_of held.plan) (state_of held) = (stood (setting_of held.plan) (state_of held) upright).counts in
     -- a piece without a fault ends within its section
     let ends : let a = c.args in a.counts.s_words + length a.piece.now ≤ a.outline.specialised * a.outline.trace =
-        let a = c.args in
-        words_room (a.outline.specialised * a.outline.trace) a.counts.s_words a.piece.now counts.words_in (sym c.s_words_fault-fault.ensures ∙ c.if-fault-ne0.false)
+    let a = c.args in
+    words_room (a.outline.specialised * a.outline.trace) a.counts.s_words a.piece.now counts.words_in (sym c.s_words_fault-fault.ensures ∙ c.if-fault-ne0.false)
     in
     let no_fault : plan_fault held.plan ≡ 0 = plan_fine held upright in
     let fine : Sound held.plan = sound held.plan no_fault in
@@ -101,8 +101,8 @@ write_words-requires c =
     let counts : Counted (setting_of held.plan) (state_of held) = (stood (setting_of held.plan) (state_of held) upright).counts in
     -- a piece without a fault ends within its section
     let ends : let a = c.args in a.counts.s_words + length a.piece.now ≤ a.outline.specialised * a.outline.trace =
-        let a = c.args in
-        words_room (a.outline.specialised * a.outline.trace) a.counts.s_words a.piece.now counts.words_in (sym c.s_words_fault-fault.ensures ∙ c.if-fault-ne0.false)
+    let a = c.args in
+    words_room (a.outline.specialised * a.outline.trace) a.counts.s_words a.piece.now counts.words_in (sym c.s_words_fault-fault.ensures ∙ c.if-fault-ne0.false)
     in
     let a = c.args in
     omega (arith, ends, c.if-constants-rooms_of.false, (c.rooms_of.ensures a.gates.now a.nodes.now).constants_are)
@@ -114,8 +114,8 @@ overflow_add-counts c =
     let counts : Counted (setting_of held.plan) (state_of held) = (stood (setting_of held.plan) (state_of held) upright).counts in
     -- a piece without a fault ends within its section
     let ends : let a = c.args in a.counts.s_words + length a.piece.now ≤ a.outline.specialised * a.outline.trace =
-        let a = c.args in
-        words_room (a.outline.specialised * a.outline.trace) a.counts.s_words a.piece.now counts.words_in (sym c.s_words_fault-fault.ensures ∙ c.if-fault-ne0.false)
+    let a = c.args in
+    words_room (a.outline.specialised * a.outline.trace) a.counts.s_words a.piece.now counts.words_in (sym c.s_words_fault-fault.ensures ∙ c.if-fault-ne0.false)
     in
     let no_fault : plan_fault held.plan ≡ 0 = plan_fine held upright in
     let fine : Sound held.plan = sound held.plan no_fault in
@@ -130,9 +130,9 @@ returns-then-stands c =
     let upright : stands (setting_of held.plan) (state_of held) ≡ true = sym (c.stands.ensures []) ∙ c.if-stands.true in
     -- the piece's number is its first faulty word's
     let own : let s = held in let a = c.args in s_words_number (setting_of s.plan) (state_of s) a.piece.now a.constants.now ≡ c.s_words_fault-fault.result =
-        let a = c.args in
-        let r = c.rooms_of.ensures a.gates.now a.nodes.now in
-        words_own held a.piece.now a.constants.now upright (omega (arith, c.if-constants-rooms_of.false, r.constants_are)) ∙ sym c.s_words_fault-fault.ensures
+    let a = c.args in
+    let r = c.rooms_of.ensures a.gates.now a.nodes.now in
+    words_own held a.piece.now a.constants.now upright (omega (arith, c.if-constants-rooms_of.false, r.constants_are)) ∙ sym c.s_words_fault-fault.ensures
     in
     let a = c.args in
     let k = words-taken held a.piece.now a.constants.now (own ∙ c.if-fault-ne0.false) in

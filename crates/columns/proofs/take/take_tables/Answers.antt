@@ -67,9 +67,9 @@ returns-then-fault-ne0 c =
     let fault-is : let a = c.args in c.tables_fault-fault.result ≡ tables_fault (ltb 0 (mode_of a.outline.lookup)) (width_of a.outline.lookup) a.outline.trace (stack_of (state_of held)) (tables_of a.piece.now) = c.tables_fault-fault.ensures ∙ rw (c.mode-looked.ensures, c.lookup_width-width.ensures) in
     let upright : stands (setting_of held.plan) (state_of held) ≡ true = sym (c.stands.ensures []) ∙ c.if-stands.true in
     let own : let s = held in let a = c.args in tables_number (setting_of s.plan) (state_of s) a.piece.now a.tables.now ≡ c.tables_fault-fault.result =
-        let a = c.args in
-        let r = c.rooms_of.ensures a.gates.now a.nodes.now in
-        tables_own held a.piece.now a.tables.now upright (omega (arith, c.if-tables-rooms_of.false, r.tables_are)) ∙ sym fault-is
+    let a = c.args in
+    let r = c.rooms_of.ensures a.gates.now a.nodes.now in
+    tables_own held a.piece.now a.tables.now upright (omega (arith, c.if-tables-rooms_of.false, r.tables_are)) ∙ sym fault-is
     in
     let a = c.args in
     let k = tables_refused held a.piece.now a.tables.now _ own c.if-fault-ne0.true in
@@ -104,9 +104,9 @@ returns-then-looked c =
     let fault-is : let a = c.args in c.tables_fault-fault.result ≡ tables_fault (ltb 0 (mode_of a.outline.lookup)) (width_of a.outline.lookup) a.outline.trace (stack_of (state_of held)) (tables_of a.piece.now) = c.tables_fault-fault.ensures ∙ rw (c.mode-looked.ensures, c.lookup_width-width.ensures) in
     let upright : stands (setting_of held.plan) (state_of held) ≡ true = sym (c.stands.ensures []) ∙ c.if-stands.true in
     let own : let s = held in let a = c.args in tables_number (setting_of s.plan) (state_of s) a.piece.now a.tables.now ≡ c.tables_fault-fault.result =
-        let a = c.args in
-        let r = c.rooms_of.ensures a.gates.now a.nodes.now in
-        tables_own held a.piece.now a.tables.now upright (omega (arith, c.if-tables-rooms_of.false, r.tables_are)) ∙ sym fault-is
+    let a = c.args in
+    let r = c.rooms_of.ensures a.gates.now a.nodes.now in
+    tables_own held a.piece.now a.tables.now upright (omega (arith, c.if-tables-rooms_of.false, r.tables_are)) ∙ sym fault-is
     in
     let a = c.args in
     let k = tables-taken held a.piece.now a.tables.now (own ∙ c.if-fault-ne0.false) in
@@ -121,9 +121,9 @@ returns-then-stands c =
     let fault-is : let a = c.args in c.tables_fault-fault.result ≡ tables_fault (ltb 0 (mode_of a.outline.lookup)) (width_of a.outline.lookup) a.outline.trace (stack_of (state_of held)) (tables_of a.piece.now) = c.tables_fault-fault.ensures ∙ rw (c.mode-looked.ensures, c.lookup_width-width.ensures) in
     let upright : stands (setting_of held.plan) (state_of held) ≡ true = sym (c.stands.ensures []) ∙ c.if-stands.true in
     let own : let s = held in let a = c.args in tables_number (setting_of s.plan) (state_of s) a.piece.now a.tables.now ≡ c.tables_fault-fault.result =
-        let a = c.args in
-        let r = c.rooms_of.ensures a.gates.now a.nodes.now in
-        tables_own held a.piece.now a.tables.now upright (omega (arith, c.if-tables-rooms_of.false, r.tables_are)) ∙ sym fault-is
+    let a = c.args in
+    let r = c.rooms_of.ensures a.gates.now a.nodes.now in
+    tables_own held a.piece.now a.tables.now upright (omega (arith, c.if-tables-rooms_of.false, r.tables_are)) ∙ sym fault-is
     in
     let s = held in
     let ws = c.args.piece.now in

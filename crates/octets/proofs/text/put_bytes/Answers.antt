@@ -1,5 +1,5 @@
 -- `octets::text::put_bytes` meets its contract. What is left to put into the present buffer is what the whole text puts into the given one.
-use Rattle.std.proofs.Common.{refl, sym, ◌∙◌, arith, ◌-◌, ◌/◌, length-set}
+use Rattle.std.proofs.Common.{refl, sym, ◌∙◌, arith, length-set}
 use Rattle.octets.specs.Text.{sink}
 use Rattle.octets.specs.TextLaws.{put_turn, put_full, put_done}
 use Rattle.octets.proofs.text.put_bytes.Goals as goal

@@ -1,5 +1,5 @@
 -- `octets::text::put_field` meets its contract: the space, then the digits.
-use Rattle.std.proofs.Common.{sym, ap, ◌∙◌, [], ◌∷◌, rules}
+use Rattle.std.proofs.Common.{sym, ap, ◌∙◌, [], ◌∷◌}
 use Rattle.octets.specs.Text.{Sink, sink, put, decimal}
 use Rattle.octets.specs.TextLaws.{put-append}
 use Rattle.octets.proofs.text.put_field.Goals as goal

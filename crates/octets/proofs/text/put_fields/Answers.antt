@@ -1,5 +1,5 @@
 -- `octets::text::put_fields` meets its contract. What is left to put into the present buffer is what all fields put into the given one.
-use Rattle.std.proofs.Common.{refl, sym, ap, ◌∙◌, arith, ◌+◌, ◌-◌, ◌/◌, drop}
+use Rattle.std.proofs.Common.{refl, sym, ap, ◌∙◌, arith, ◌+◌, drop}
 use Rattle.octets.specs.Text.{Sink, sink, put, fields}
 use Rattle.octets.specs.TextLaws.{fields_turn, fields_done}
 use Rattle.octets.proofs.text.put_fields.Goals as goal

@@ -1,5 +1,5 @@
 -- `octets::words::read_words` meets its contract. The words passed are those of the bytes, the others as they were.
-use Rattle.std.proofs.Common.{◌≡◌, arith, ◌-◌, ◌/◌, min, length}
+use Rattle.std.proofs.Common.{◌≡◌, arith, ◌/◌, min, length}
 use Rattle.base.specs.Fills.{filled_none, filled_next}
 use Rattle.octets.specs.Words.{word_at}
 use Rattle.octets.specs.WordLaws.{words_filled}

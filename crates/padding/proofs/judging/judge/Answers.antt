@@ -23,7 +23,7 @@ reach_by : (w : Words) (many t g m b n : ℕ) → many ≡ length (rows_of w.row
     → n ≡ pick (leb b longest_trace) (2 ^ exponent b) 1 → given w ≤ longest_trace → Reached w b n
 reach_by w many t g m b n e k is_g is_m is_b is_n within =
     let f : b ≡ max (length (rows_of w.rows) + 1) (max t (given w)) =
-      is_b ∙ ap (λ (x : ℕ). max (x + 1) m) e ∙ ap (max (length (rows_of w.rows) + 1)) (is_m ∙ ap (max t) is_g) in
+    is_b ∙ ap (λ (x : ℕ). max (x + 1) m) e ∙ ap (max (length (rows_of w.rows) + 1)) (is_m ∙ ap (max t) is_g) in
     subst (λ (x : ℕ). Reached w x n) (sym f) (reached w t n k within (is_n ∙ ap (λ (x : ℕ). pick (leb x longest_trace) (2 ^ exponent x) 1) f))
 
 -- what planning answers, by the words

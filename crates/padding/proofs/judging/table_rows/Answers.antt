@@ -1,5 +1,5 @@
 -- `judging::table_rows` meets its contract: the tables that are left have the rest of the rows.
-use Rattle.std.proofs.Common.{◌≡◌, sym, subst, arith, ℕ, ◌+◌, ◌-◌, ◌*◌, ◌≤◌, List, length, get_or}
+use Rattle.std.proofs.Common.{◌≡◌, sym, subst, arith, ℕ, ◌+◌, ◌*◌, ◌≤◌, List, length, get_or}
 use Rattle.pieces.specs.Records.{table_size}
 use Rattle.pieces.specs.RecordLaws.{Uncut}
 use Rattle.padding.specs.Sums.{Summing, summing_begin, summing_here, summing_next, summing_passed, summing_done}

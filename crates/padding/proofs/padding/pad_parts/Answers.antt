@@ -7,7 +7,7 @@ use Rattle.pieces.specs.RecordLaws.{Whole}
 use Rattle.listing.specs.Listing.{Words}
 use Rattle.listing.specs.Places.{words_at}
 use Rattle.listing.specs.Writing.{written}
-use Rattle.listing.proofs.Written.{Sound, read_sound}
+use Rattle.listing.proofs.Written.{read_sound}
 use Rattle.writer.proofs.HandLaws.{answer-given, answer_refused, answer_short, hand_given, hand_refused, hand_short, handed-long}
 use Rattle.writer.specs.Put.{put}
 use Rattle.writer.specs.PutLaws.{put_front}
@@ -51,9 +51,9 @@ judge-judged-requires c =
     let long : length ws ≡ 6 + parameter_words + length w.gates + length w.rows + length w.s_words + length w.cells + length w.tables = omega (arith, ap length q.1, written-long w, q.0.eight-words) in
     let m_read = get_or ws (2 + parameter_words + length c.part_of-gates.result.now) 0 in
     let m : m_read ≡ length (rows_of w.rows) =
-      ap (λ (n : ℕ). get_or ws (2 + parameter_words + n) 0) (ap length c.part_of-gates.ensures)
-      ∙ ap (λ (v : List ℕ). get_or v (2 + parameter_words + length w.gates) 0) q.1
-      ∙ count_of_rows w q.0.eight-words in
+    ap (λ (n : ℕ). get_or ws (2 + parameter_words + n) 0) (ap length c.part_of-gates.ensures)
+    ∙ ap (λ (v : List ℕ). get_or v (2 + parameter_words + length w.gates) 0) q.1
+    ∙ count_of_rows w q.0.eight-words in
     let r = c.part_of-rows.ensures in
     record {
       eight_len = (ap length c.part_of-eight.ensures ∙ q.0.eight-words, m ∙ ap (λ (v : List ℕ). length (rows_of v)) (sym r), omega (arith, m, rows_few w.rows, ap length r));
@@ -69,9 +69,9 @@ returns-then-judged-ne0 c =
     let long : length ws ≡ 6 + parameter_words + length w.gates + length w.rows + length w.s_words + length w.cells + length w.tables = omega (arith, ap length q.1, written-long w, q.0.eight-words) in
     let m_read = get_or ws (2 + parameter_words + length c.part_of-gates.result.now) 0 in
     let m : m_read ≡ length (rows_of w.rows) =
-      ap (λ (n : ℕ). get_or ws (2 + parameter_words + n) 0) (ap length c.part_of-gates.ensures)
-      ∙ ap (λ (v : List ℕ). get_or v (2 + parameter_words + length w.gates) 0) q.1
-      ∙ count_of_rows w q.0.eight-words in
+    ap (λ (n : ℕ). get_or ws (2 + parameter_words + n) 0) (ap length c.part_of-gates.ensures)
+    ∙ ap (λ (v : List ℕ). get_or v (2 + parameter_words + length w.gates) 0) q.1
+    ∙ count_of_rows w q.0.eight-words in
     let parts = six_of c.part_of-eight.result.now c.part_of-gates.result.now c.part_of-rows.result.now c.part_of-s_words.result.now c.part_of-cells.result.now c.part_of-tables.result.now in
     let same : parts ≡ w = six_is w _ _ _ _ _ _ c.part_of-eight.ensures c.part_of-gates.ensures c.part_of-rows.ensures c.part_of-s_words.ensures c.part_of-cells.ensures c.part_of-tables.ensures in
     let judged : Judging w c.judge-judged.result = subst (λ (v : Words). Judging v c.judge-judged.result) same c.judge-judged.ensures in
@@ -92,9 +92,9 @@ words_more-more-requires c =
     let long : length ws ≡ 6 + parameter_words + length w.gates + length w.rows + length w.s_words + length w.cells + length w.tables = omega (arith, ap length q.1, written-long w, q.0.eight-words) in
     let m_read = get_or ws (2 + parameter_words + length c.part_of-gates.result.now) 0 in
     let m : m_read ≡ length (rows_of w.rows) =
-      ap (λ (n : ℕ). get_or ws (2 + parameter_words + n) 0) (ap length c.part_of-gates.ensures)
-      ∙ ap (λ (v : List ℕ). get_or v (2 + parameter_words + length w.gates) 0) q.1
-      ∙ count_of_rows w q.0.eight-words in
+    ap (λ (n : ℕ). get_or ws (2 + parameter_words + n) 0) (ap length c.part_of-gates.ensures)
+    ∙ ap (λ (v : List ℕ). get_or v (2 + parameter_words + length w.gates) 0) q.1
+    ∙ count_of_rows w q.0.eight-words in
     let parts = six_of c.part_of-eight.result.now c.part_of-gates.result.now c.part_of-rows.result.now c.part_of-s_words.result.now c.part_of-cells.result.now c.part_of-tables.result.now in
     let same : parts ≡ w = six_is w _ _ _ _ _ _ c.part_of-eight.ensures c.part_of-gates.ensures c.part_of-rows.ensures c.part_of-s_words.ensures c.part_of-cells.ensures c.part_of-tables.ensures in
     let judged : Judging w c.judge-judged.result = subst (λ (v : Words). Judging v c.judge-judged.result) same c.judge-judged.ensures in
@@ -117,9 +117,9 @@ returns-then-too_short c =
     let long : length ws ≡ 6 + parameter_words + length w.gates + length w.rows + length w.s_words + length w.cells + length w.tables = omega (arith, ap length q.1, written-long w, q.0.eight-words) in
     let m_read = get_or ws (2 + parameter_words + length c.part_of-gates.result.now) 0 in
     let m : m_read ≡ length (rows_of w.rows) =
-      ap (λ (n : ℕ). get_or ws (2 + parameter_words + n) 0) (ap length c.part_of-gates.ensures)
-      ∙ ap (λ (v : List ℕ). get_or v (2 + parameter_words + length w.gates) 0) q.1
-      ∙ count_of_rows w q.0.eight-words in
+    ap (λ (n : ℕ). get_or ws (2 + parameter_words + n) 0) (ap length c.part_of-gates.ensures)
+    ∙ ap (λ (v : List ℕ). get_or v (2 + parameter_words + length w.gates) 0) q.1
+    ∙ count_of_rows w q.0.eight-words in
     let parts = six_of c.part_of-eight.result.now c.part_of-gates.result.now c.part_of-rows.result.now c.part_of-s_words.result.now c.part_of-cells.result.now c.part_of-tables.result.now in
     let same : parts ≡ w = six_is w _ _ _ _ _ _ c.part_of-eight.ensures c.part_of-gates.ensures c.part_of-rows.ensures c.part_of-s_words.ensures c.part_of-cells.ensures c.part_of-tables.ensures in
     let judged : Judging w c.judge-judged.result = subst (λ (v : Words). Judging v c.judge-judged.result) same c.judge-judged.ensures in
@@ -132,10 +132,10 @@ returns-then-too_short c =
     let small = small_of w g q.0.eight-words in
     -- as many words as are asked for
     let more : c.words_more-more.result ≡ more_words (length_of w) (length (rows_of w.rows)) w.parameters =
-      c.words_more-more.ensures
-      ∙ ap (λ (n : ℕ). more_words n m_read c.part_of-eight.result.now) (judged.length_is unrefused)
-      ∙ ap (λ (n : ℕ). more_words (length_of w) n c.part_of-eight.result.now) m
-      ∙ ap (more_words (length_of w) (length (rows_of w.rows))) c.part_of-eight.ensures in
+    c.words_more-more.ensures
+    ∙ ap (λ (n : ℕ). more_words n m_read c.part_of-eight.result.now) (judged.length_is unrefused)
+    ∙ ap (λ (n : ℕ). more_words (length_of w) n c.part_of-eight.result.now) m
+    ∙ ap (more_words (length_of w) (length (rows_of w.rows))) c.part_of-eight.ensures in
     let k = good_columns w g in
     let total : length new ≡ length ws + c.words_more-more.result = omega (arith, padded-long w q.0 k.0 k.1, more, ap length q.1) in
     let h = ltb-true (length o) (length ws + c.words_more-more.result) (sym c.too_short.ensures ∙ c.if-too_short.true) in
@@ -194,9 +194,9 @@ write_padded-requires c =
     let long : length ws ≡ 6 + parameter_words + length w.gates + length w.rows + length w.s_words + length w.cells + length w.tables = omega (arith, ap length q.1, written-long w, q.0.eight-words) in
     let m_read = get_or ws (2 + parameter_words + length c.part_of-gates.result.now) 0 in
     let m : m_read ≡ length (rows_of w.rows) =
-      ap (λ (n : ℕ). get_or ws (2 + parameter_words + n) 0) (ap length c.part_of-gates.ensures)
-      ∙ ap (λ (v : List ℕ). get_or v (2 + parameter_words + length w.gates) 0) q.1
-      ∙ count_of_rows w q.0.eight-words in
+    ap (λ (n : ℕ). get_or ws (2 + parameter_words + n) 0) (ap length c.part_of-gates.ensures)
+    ∙ ap (λ (v : List ℕ). get_or v (2 + parameter_words + length w.gates) 0) q.1
+    ∙ count_of_rows w q.0.eight-words in
     let parts = six_of c.part_of-eight.result.now c.part_of-gates.result.now c.part_of-rows.result.now c.part_of-s_words.result.now c.part_of-cells.result.now c.part_of-tables.result.now in
     let same : parts ≡ w = six_is w _ _ _ _ _ _ c.part_of-eight.ensures c.part_of-gates.ensures c.part_of-rows.ensures c.part_of-s_words.ensures c.part_of-cells.ensures c.part_of-tables.ensures in
     let judged : Judging w c.judge-judged.result = subst (λ (v : Words). Judging v c.judge-judged.result) same c.judge-judged.ensures in
@@ -209,10 +209,10 @@ write_padded-requires c =
     let small = small_of w g q.0.eight-words in
     -- as many words as are asked for
     let more : c.words_more-more.result ≡ more_words (length_of w) (length (rows_of w.rows)) w.parameters =
-      c.words_more-more.ensures
-      ∙ ap (λ (n : ℕ). more_words n m_read c.part_of-eight.result.now) (judged.length_is unrefused)
-      ∙ ap (λ (n : ℕ). more_words (length_of w) n c.part_of-eight.result.now) m
-      ∙ ap (more_words (length_of w) (length (rows_of w.rows))) c.part_of-eight.ensures in
+    c.words_more-more.ensures
+    ∙ ap (λ (n : ℕ). more_words n m_read c.part_of-eight.result.now) (judged.length_is unrefused)
+    ∙ ap (λ (n : ℕ). more_words (length_of w) n c.part_of-eight.result.now) m
+    ∙ ap (more_words (length_of w) (length (rows_of w.rows))) c.part_of-eight.ensures in
     let k = good_columns w g in
     let total : length new ≡ length ws + c.words_more-more.result = omega (arith, padded-long w q.0 k.0 k.1, more, ap length q.1) in
     let h = ltb-false (length o) (length ws + c.words_more-more.result) (sym c.too_short.ensures ∙ c.if-too_short.false) in
@@ -229,9 +229,9 @@ overflow_add-result c =
     let long : length ws ≡ 6 + parameter_words + length w.gates + length w.rows + length w.s_words + length w.cells + length w.tables = omega (arith, ap length q.1, written-long w, q.0.eight-words) in
     let m_read = get_or ws (2 + parameter_words + length c.part_of-gates.result.now) 0 in
     let m : m_read ≡ length (rows_of w.rows) =
-      ap (λ (n : ℕ). get_or ws (2 + parameter_words + n) 0) (ap length c.part_of-gates.ensures)
-      ∙ ap (λ (v : List ℕ). get_or v (2 + parameter_words + length w.gates) 0) q.1
-      ∙ count_of_rows w q.0.eight-words in
+    ap (λ (n : ℕ). get_or ws (2 + parameter_words + n) 0) (ap length c.part_of-gates.ensures)
+    ∙ ap (λ (v : List ℕ). get_or v (2 + parameter_words + length w.gates) 0) q.1
+    ∙ count_of_rows w q.0.eight-words in
     let parts = six_of c.part_of-eight.result.now c.part_of-gates.result.now c.part_of-rows.result.now c.part_of-s_words.result.now c.part_of-cells.result.now c.part_of-tables.result.now in
     let same : parts ≡ w = six_is w _ _ _ _ _ _ c.part_of-eight.ensures c.part_of-gates.ensures c.part_of-rows.ensures c.part_of-s_words.ensures c.part_of-cells.ensures c.part_of-tables.ensures in
     let judged : Judging w c.judge-judged.result = subst (λ (v : Words). Judging v c.judge-judged.result) same c.judge-judged.ensures in
@@ -244,10 +244,10 @@ overflow_add-result c =
     let small = small_of w g q.0.eight-words in
     -- as many words as are asked for
     let more : c.words_more-more.result ≡ more_words (length_of w) (length (rows_of w.rows)) w.parameters =
-      c.words_more-more.ensures
-      ∙ ap (λ (n : ℕ). more_words n m_read c.part_of-eight.result.now) (judged.length_is unrefused)
-      ∙ ap (λ (n : ℕ). more_words (length_of w) n c.part_of-eight.result.now) m
-      ∙ ap (more_words (length_of w) (length (rows_of w.rows))) c.part_of-eight.ensures in
+    c.words_more-more.ensures
+    ∙ ap (λ (n : ℕ). more_words n m_read c.part_of-eight.result.now) (judged.length_is unrefused)
+    ∙ ap (λ (n : ℕ). more_words (length_of w) n c.part_of-eight.result.now) m
+    ∙ ap (more_words (length_of w) (length (rows_of w.rows))) c.part_of-eight.ensures in
     let k = good_columns w g in
     let total : length new ≡ length ws + c.words_more-more.result = omega (arith, padded-long w q.0 k.0 k.1, more, ap length q.1) in
     let h = ltb-false (length o) (length ws + c.words_more-more.result) (sym c.too_short.ensures ∙ c.if-too_short.false) in
@@ -263,9 +263,9 @@ returns c =
     let long : length ws ≡ 6 + parameter_words + length w.gates + length w.rows + length w.s_words + length w.cells + length w.tables = omega (arith, ap length q.1, written-long w, q.0.eight-words) in
     let m_read = get_or ws (2 + parameter_words + length c.part_of-gates.result.now) 0 in
     let m : m_read ≡ length (rows_of w.rows) =
-      ap (λ (n : ℕ). get_or ws (2 + parameter_words + n) 0) (ap length c.part_of-gates.ensures)
-      ∙ ap (λ (v : List ℕ). get_or v (2 + parameter_words + length w.gates) 0) q.1
-      ∙ count_of_rows w q.0.eight-words in
+    ap (λ (n : ℕ). get_or ws (2 + parameter_words + n) 0) (ap length c.part_of-gates.ensures)
+    ∙ ap (λ (v : List ℕ). get_or v (2 + parameter_words + length w.gates) 0) q.1
+    ∙ count_of_rows w q.0.eight-words in
     let parts = six_of c.part_of-eight.result.now c.part_of-gates.result.now c.part_of-rows.result.now c.part_of-s_words.result.now c.part_of-cells.result.now c.part_of-tables.result.now in
     let same : parts ≡ w = six_is w _ _ _ _ _ _ c.part_of-eight.ensures c.part_of-gates.ensures c.part_of-rows.ensures c.part_of-s_words.ensures c.part_of-cells.ensures c.part_of-tables.ensures in
     let judged : Judging w c.judge-judged.result = subst (λ (v : Words). Judging v c.judge-judged.result) same c.judge-judged.ensures in
@@ -278,10 +278,10 @@ returns c =
     let small = small_of w g q.0.eight-words in
     -- as many words as are asked for
     let more : c.words_more-more.result ≡ more_words (length_of w) (length (rows_of w.rows)) w.parameters =
-      c.words_more-more.ensures
-      ∙ ap (λ (n : ℕ). more_words n m_read c.part_of-eight.result.now) (judged.length_is unrefused)
-      ∙ ap (λ (n : ℕ). more_words (length_of w) n c.part_of-eight.result.now) m
-      ∙ ap (more_words (length_of w) (length (rows_of w.rows))) c.part_of-eight.ensures in
+    c.words_more-more.ensures
+    ∙ ap (λ (n : ℕ). more_words n m_read c.part_of-eight.result.now) (judged.length_is unrefused)
+    ∙ ap (λ (n : ℕ). more_words (length_of w) n c.part_of-eight.result.now) m
+    ∙ ap (more_words (length_of w) (length (rows_of w.rows))) c.part_of-eight.ensures in
     let k = good_columns w g in
     let total : length new ≡ length ws + c.words_more-more.result = omega (arith, padded-long w q.0 k.0 k.1, more, ap length q.1) in
     let h = ltb-false (length o) (length ws + c.words_more-more.result) (sym c.too_short.ensures ∙ c.if-too_short.false) in

@@ -49,10 +49,10 @@ pub shape_of-out : goal.shape_of-out
 shape_of-out c =
     -- all columns
     let done : c.loop-c.out ≡ put c.args.at (stretched c.args.fill c.args.height c.args.long c.args.columns c.args.words.now) c.args.out.now =
-      let l = c.loop-c in
-      let a = c.args in
-      let e : l.c ≡ a.columns = omega arith in
-      l.invariant.1 ∙ ap (λ (k : ℕ). put a.at (besides a.height (a.long - a.height) k a.words.now (replicate (a.columns * (a.long - a.height)) a.fill)) a.out.now) e in
+    let l = c.loop-c in
+    let a = c.args in
+    let e : l.c ≡ a.columns = omega arith in
+    l.invariant.1 ∙ ap (λ (k : ℕ). put a.at (besides a.height (a.long - a.height) k a.words.now (replicate (a.columns * (a.long - a.height)) a.fill)) a.out.now) e in
     let a = c.args in
     ap length done ∙ put-length a.at (stretched a.fill a.height a.long a.columns a.words.now) a.out.now (omega (arith, c.requires.height_le_long.2, stretched-long a.fill a.height a.long a.columns a.words.now c.requires.height_le_long.0 c.requires.height_le_long.1))
 
@@ -60,8 +60,8 @@ pub returns : goal.returns
 returns c =
     -- all columns
     let done : c.loop-c.out ≡ put c.args.at (stretched c.args.fill c.args.height c.args.long c.args.columns c.args.words.now) c.args.out.now =
-      let l = c.loop-c in
-      let a = c.args in
-      let e : l.c ≡ a.columns = omega arith in
-      l.invariant.1 ∙ ap (λ (k : ℕ). put a.at (besides a.height (a.long - a.height) k a.words.now (replicate (a.columns * (a.long - a.height)) a.fill)) a.out.now) e in
+    let l = c.loop-c in
+    let a = c.args in
+    let e : l.c ≡ a.columns = omega arith in
+    l.invariant.1 ∙ ap (λ (k : ℕ). put a.at (besides a.height (a.long - a.height) k a.words.now (replicate (a.columns * (a.long - a.height)) a.fill)) a.out.now) e in
     (refl, done)

@@ -1,5 +1,5 @@
 -- `parts::put_rows` meets its contract: after i turns i records are written.
-use Rattle.std.proofs.Common.{◌≡◌, refl, ap, ◌∙◌, arith, ℕ, ◌-◌, length}
+use Rattle.std.proofs.Common.{◌≡◌, refl, ap, ◌∙◌, arith, ℕ, length}
 use Rattle.writer.specs.Put.{put}
 use Rattle.writer.specs.PutLaws.{put-nothing, put-length}
 use Rattle.padding.specs.Padding.{fillers}

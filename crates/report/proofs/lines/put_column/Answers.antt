@@ -1,5 +1,5 @@
 -- `report::lines::put_column` meets its contract: the name, the fields, the end of the line.
-use Rattle.std.proofs.Common.{◌++◌, rules}
+use Rattle.std.proofs.Common.{◌++◌}
 use Rattle.octets.specs.Text.{sink, field, fields}
 use Rattle.octets.specs.TextLaws.{then}
 use Rattle.report.specs.Report.{newline}

@@ -1,5 +1,5 @@
 -- `report::lines::put_digit` meets its contract: the code makes the definition's test.
-use Rattle.std.proofs.Common.{sym, ap, ◌∙◌, [], ◌∷◌, eq-eqb, ne_eqb, rules}
+use Rattle.std.proofs.Common.{sym, ap, ◌∙◌, [], ◌∷◌, eq-eqb, ne_eqb}
 use Rattle.octets.specs.Text.{sink, put}
 use Rattle.base.specs.Pick.{pick_yes, pick_no}
 use Rattle.report.proofs.lines.put_digit.Goals as goal

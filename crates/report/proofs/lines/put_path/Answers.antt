@@ -1,5 +1,5 @@
 -- `report::lines::put_path` meets its contract: what the plan answers of the gate reads as the definition has it.
-use Rattle.std.proofs.Common.{◌∙◌, ◌≡◌, ap, refl, ◌++◌, rules}
+use Rattle.std.proofs.Common.{◌∙◌, ◌≡◌, ap, refl, ◌++◌}
 use Rattle.octets.specs.Text.{field, sink}
 use Rattle.octets.specs.TextLaws.{then}
 use Rattle.tree.specs.Plan.{plan_selector}

@@ -1,5 +1,5 @@
 -- `report::lines::put_plan` meets its contract: the name, the three fields, the end of the line.
-use Rattle.std.proofs.Common.{[], ◌∷◌, ◌++◌, rules}
+use Rattle.std.proofs.Common.{[], ◌∷◌, ◌++◌}
 use Rattle.octets.specs.Text.{sink, fields}
 use Rattle.octets.specs.TextLaws.{then}
 use Rattle.report.specs.Report.{newline, plan_name}

@@ -1,5 +1,5 @@
 -- `report::lines::put_steps` meets its contract: the code makes the definition's test.
-use Rattle.std.proofs.Common.{arith, ◌-◌, rules}
+use Rattle.std.proofs.Common.{arith}
 use Rattle.octets.specs.Text.{sink}
 use Rattle.report.specs.ReportLaws.{steps-none, steps-some}
 use Rattle.report.proofs.lines.put_steps.Goals as goal

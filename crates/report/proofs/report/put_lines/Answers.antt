@@ -1,5 +1,5 @@
 -- `report::report::put_lines` meets its contract: one part after the other.
-use Rattle.std.proofs.Common.{◌≡◌, ap, ◌∙◌, ◌++◌, arith, ℕ, ◌+◌, ◌≤◌, length, rules}
+use Rattle.std.proofs.Common.{◌≡◌, ap, ◌∙◌, ◌++◌, arith, ℕ, ◌+◌, ◌≤◌, length}
 use Rattle.octets.specs.Text.{sink, put}
 use Rattle.octets.specs.TextLaws.{then}
 use Rattle.pieces.specs.Setting.{constant_room, copy_room, table_room}

@@ -1,5 +1,5 @@
 -- `report::report::put_refused` meets its contract: the name, the number, the end of the line.
-use Rattle.std.proofs.Common.{◌++◌, rules}
+use Rattle.std.proofs.Common.{◌++◌}
 use Rattle.octets.specs.Text.{sink, field}
 use Rattle.octets.specs.TextLaws.{then}
 use Rattle.report.specs.Report.{newline, refused_name}

@@ -24,5 +24,5 @@ pub returns : goal.returns
 returns t c =
     let a = c.args in
     λ u q.
-        let w = halves a.nodes.now a.at a.levels u (omega arith) c.if-left-eq0.false q in
-        place_fork w.l w.r u w.is a.path a.weight a.depth (path_words a.bits.now a.lengths.now) _ _ (c.all_placements.ensures w.r w.right) (c.all_placements-2.ensures w.l w.left)
+    let w = halves a.nodes.now a.at a.levels u (omega arith) c.if-left-eq0.false q in
+    place_fork w.l w.r u w.is a.path a.weight a.depth (path_words a.bits.now a.lengths.now) _ _ (c.all_placements.ensures w.r w.right) (c.all_placements-2.ensures w.l w.left)

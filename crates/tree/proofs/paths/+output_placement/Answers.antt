@@ -19,8 +19,8 @@ returns-then-one-clause-value t c =
     let a = c.args in
     let one = c.output_placement-one in
     λ u q.
-        let w = halves a.nodes.now a.at a.levels u (omega arith) c.if-left-eq0.false q in
-        seek_left a.gate w.l w.r u w.is one.result (one.ensures.value w.l w.left) c.if-one.true
+    let w = halves a.nodes.now a.at a.levels u (omega arith) c.if-left-eq0.false q in
+    seek_left a.gate w.l w.r u w.is one.result (one.ensures.value w.l w.left) c.if-one.true
 
 pub returns-then-one-clause-bits_bound : goal.returns-then-one-clause-bits_bound
 returns-then-one-clause-bits_bound t c =
@@ -34,8 +34,8 @@ returns-then-two-clause-value t c =
     let one = c.output_placement-one in
     let two = c.output_placement-two in
     λ u q.
-        let w = halves a.nodes.now a.at a.levels u (omega arith) c.if-left-eq0.false q in
-        seek_right a.gate w.l w.r u w.is one.result two.result (one.ensures.value w.l w.left) c.if-one.false (two.ensures.value w.r w.right) c.if-two.true
+    let w = halves a.nodes.now a.at a.levels u (omega arith) c.if-left-eq0.false q in
+    seek_right a.gate w.l w.r u w.is one.result two.result (one.ensures.value w.l w.left) c.if-one.false (two.ensures.value w.r w.right) c.if-two.true
 
 pub returns-then-two-clause-bits_bound : goal.returns-then-two-clause-bits_bound
 returns-then-two-clause-bits_bound t c =
@@ -49,8 +49,8 @@ returns-clause-value t c =
     let one = c.output_placement-one in
     let two = c.output_placement-two in
     λ u q.
-        let w = halves a.nodes.now a.at a.levels u (omega arith) c.if-left-eq0.false q in
-        seek_neither a.gate w.l w.r u w.is one.result two.result (one.ensures.value w.l w.left) c.if-one.false (two.ensures.value w.r w.right) c.if-two.false
+    let w = halves a.nodes.now a.at a.levels u (omega arith) c.if-left-eq0.false q in
+    seek_neither a.gate w.l w.r u w.is one.result two.result (one.ensures.value w.l w.left) c.if-one.false (two.ensures.value w.r w.right) c.if-two.false
 
 pub returns-clause-bits_bound : goal.returns-clause-bits_bound
 returns-clause-bits_bound t c =

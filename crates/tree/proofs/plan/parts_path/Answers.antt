@@ -1,7 +1,7 @@
 -- `plan::parts_path` meets its contract: a plan without a fault has a tree at node 0, by which its nodes answer of the gate.
-use Rattle.std.proofs.Common.{◌∙◌, ◌≡◌, sym}
+use Rattle.std.proofs.Common.{◌∙◌, sym}
 use Rattle.tree.proofs.PlanCodeLaws.{path_answered, path_made-up}
-use Rattle.tree.specs.Plan.{plan_fault, plan_in}
+use Rattle.tree.specs.Plan.{plan_in}
 use Rattle.tree.specs.PlanLaws.{fault_none}
 use Rattle.tree.proofs.plan.parts_path.Goals as goal
 

@@ -6,9 +6,8 @@ use Rattle.selector.specs.Gates.{constants_of}
 use Rattle.selector.specs.Refusals.{extra_of}
 use Rattle.tree.proofs.PlanCodeLaws.{barred-given, blocked-given, listed_filled, own_given, paths-placed}
 use Rattle.tree.specs.Placements.{path_words}
-use Rattle.tree.specs.Plan.{for_listed, gate_rows_answer, plan_barred, plan_blocked, plan_extra, plan_fault, plan_in, plan_own, plan_selection}
+use Rattle.tree.specs.Plan.{gate_rows_answer, plan_barred, plan_blocked, plan_extra, plan_fault, plan_in, plan_own}
 use Rattle.tree.specs.PlanLaws.{fault_none}
-use Rattle.tree.specs.Selection.{selection_bits, selection_length}
 use Rattle.tree.proofs.plan.parts_rows.Goals as goal
 
 pub returns-then-parts_fault-ne0 : goal.returns-then-parts_fault-ne0

@@ -42,9 +42,12 @@ returns-then-taken-count c =
     let e = c.try_add_gate-taken.ensures in
     let n = sym e.value ∙ c.if-taken-count.true in
     let kept = e.nodes_after ∙ ap (λ (z : Placed). z.nodes) (refused (may_stand a.extra a.gates.now a.target a.bound) (get_or a.order.now l.i 0) l.nodes l.count most_levels 0 0 n) in
-    rw kept record { stands = stands a.extra a.target a.bound a.gates.now a.many a.base a.order.now a.nodes.now p.gate_words_in_bounds.0 p.gate_words_in_bounds.1 p.gate_words_in_bounds.2 p.gate_words_in_bounds.3 p.listed p.distinct _ _
+    rw kept record {
+      stands = stands a.extra a.target a.bound a.gates.now a.many a.base a.order.now a.nodes.now p.gate_words_in_bounds.0 p.gate_words_in_bounds.1 p.gate_words_in_bounds.2 p.gate_words_in_bounds.3 p.listed p.distinct _ _
           (grow_fits (may_stand a.extra a.gates.now a.target a.bound) a.gates.now a.many a.base p.gate_words_in_bounds.0 a.order.now p.gate_words_in_bounds.2 p.listed _ a.nodes.now c.if-base-ge-MOST_GATES.false c.put_node.ensures (sym c.may_stand.ensures ∙ c.if-may_stand.true)
-          ∙ grow_stop (may_stand a.extra a.gates.now a.target a.bound) a.gates.now a.many a.base p.gate_words_in_bounds.0 a.order.now p.gate_words_in_bounds.2 p.listed _ l.nodes l.count l.i l.invariant c.loop-i-test.true n); nodes_len = l.invariant.long }
+          ∙ grow_stop (may_stand a.extra a.gates.now a.target a.bound) a.gates.now a.many a.base p.gate_words_in_bounds.0 a.order.now p.gate_words_in_bounds.2 p.listed _ l.nodes l.count l.i l.invariant c.loop-i-test.true n);
+      nodes_len = l.invariant.long;
+    }
 
 pub loop-i-preserved : goal.loop-i-preserved
 loop-i-preserved c =
@@ -58,12 +61,18 @@ pub returns-then-may_stand : goal.returns-then-may_stand
 returns-then-may_stand c =
     let l = c.loop-i in
     let a = c.args in
-    let p = c.requires in record { stands = stands a.extra a.target a.bound a.gates.now a.many a.base a.order.now a.nodes.now p.gate_words_in_bounds.0 p.gate_words_in_bounds.1 p.gate_words_in_bounds.2 p.gate_words_in_bounds.3 p.listed p.distinct _ _
+    let p = c.requires in record {
+      stands = stands a.extra a.target a.bound a.gates.now a.many a.base a.order.now a.nodes.now p.gate_words_in_bounds.0 p.gate_words_in_bounds.1 p.gate_words_in_bounds.2 p.gate_words_in_bounds.3 p.listed p.distinct _ _
           (grow_fits (may_stand a.extra a.gates.now a.target a.bound) a.gates.now a.many a.base p.gate_words_in_bounds.0 a.order.now p.gate_words_in_bounds.2 p.listed _ a.nodes.now c.if-base-ge-MOST_GATES.false c.put_node.ensures (sym c.may_stand.ensures ∙ c.if-may_stand.true)
-          ∙ grow_end (may_stand a.extra a.gates.now a.target a.bound) a.gates.now a.many a.base p.gate_words_in_bounds.0 a.order.now p.gate_words_in_bounds.2 p.listed _ l.nodes l.count l.i l.invariant c.loop-i-test.false); nodes_len = l.invariant.long }
+          ∙ grow_end (may_stand a.extra a.gates.now a.target a.bound) a.gates.now a.many a.base p.gate_words_in_bounds.0 a.order.now p.gate_words_in_bounds.2 p.listed _ l.nodes l.count l.i l.invariant c.loop-i-test.false);
+      nodes_len = l.invariant.long;
+    }
 
 pub returns : goal.returns
 returns c =
     let a = c.args in
-    let p = c.requires in record { stands = stands a.extra a.target a.bound a.gates.now a.many a.base a.order.now a.nodes.now p.gate_words_in_bounds.0 p.gate_words_in_bounds.1 p.gate_words_in_bounds.2 p.gate_words_in_bounds.3 p.listed p.distinct _ _
-          (grow_not (may_stand a.extra a.gates.now a.target a.bound) a.gates.now a.many a.base p.gate_words_in_bounds.0 a.order.now p.gate_words_in_bounds.2 p.listed a.nodes.now a.nodes.now c.if-base-ge-MOST_GATES.false (sym c.may_stand.ensures ∙ c.if-may_stand.false)); nodes_len = p.gate_words_in_bounds.3 }
+    let p = c.requires in record {
+      stands = stands a.extra a.target a.bound a.gates.now a.many a.base a.order.now a.nodes.now p.gate_words_in_bounds.0 p.gate_words_in_bounds.1 p.gate_words_in_bounds.2 p.gate_words_in_bounds.3 p.listed p.distinct _ _
+          (grow_not (may_stand a.extra a.gates.now a.target a.bound) a.gates.now a.many a.base p.gate_words_in_bounds.0 a.order.now p.gate_words_in_bounds.2 p.listed a.nodes.now a.nodes.now c.if-base-ge-MOST_GATES.false (sym c.may_stand.ensures ∙ c.if-may_stand.false));
+      nodes_len = p.gate_words_in_bounds.3;
+    }

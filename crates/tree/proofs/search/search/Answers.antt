@@ -53,8 +53,11 @@ returns-then-count-ne0 c =
     let r = c.arrange-ranged in
     let l = c.loop-k in
     let w = c.power_above-levels in
-    let e = c.try_find_placement_for_degree-count.ensures in record { stands = rw l.invariant.3 (target_won a.many (within a.gates.now a.many a.extra) l.k l.target _ _ c.loop-k-test.true
-          (rw (bounds_are a.gates.now a.many a.extra r.new.order r.result.base r.ensures.order_after l.target _ _ r.ensures.order_len_2.0 w.ensures.0 r.ensures.constants_value) at e.stands) c.if-count-ne0.true); nodes_len_2 = e.nodes_len }
+    let e = c.try_find_placement_for_degree-count.ensures in record {
+      stands = rw l.invariant.3 (target_won a.many (within a.gates.now a.many a.extra) l.k l.target _ _ c.loop-k-test.true
+          (rw (bounds_are a.gates.now a.many a.extra r.new.order r.result.base r.ensures.order_after l.target _ _ r.ensures.order_len_2.0 w.ensures.0 r.ensures.constants_value) at e.stands) c.if-count-ne0.true);
+      nodes_len_2 = e.nodes_len;
+    }
 
 pub overflow_mul-target : goal.overflow_mul-target
 overflow_mul-target c =

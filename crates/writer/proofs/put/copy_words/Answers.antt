@@ -1,6 +1,6 @@
 -- `put::copy_words` meets its contract: after i turns the first i words are copied.
 use lib.Seq.{paste-suc}
-use Rattle.std.proofs.Common.{◌-◌, length, ◌∙◌, ◌≡◌, ap, add-one, arith}
+use Rattle.std.proofs.Common.{length, ◌∙◌, ◌≡◌, ap, add-one, arith}
 use Rattle.std.proofs.lemmas.List.Edits.{length-paste}
 use Rattle.std.proofs.Math.Seq.{paste, paste-zero}
 use Rattle.writer.specs.Put.{put}

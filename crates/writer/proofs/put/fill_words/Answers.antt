@@ -1,6 +1,6 @@
 -- `put::fill_words` meets its contract: after i turns i words are filled.
 use lib.Seq.{paste-suc}
-use Rattle.std.proofs.Common.{ℕ, ◌-◌, ◌+◌, ◌≤◌, length, replicate, get_or, set, List, ◌∙◌, ◌≡◌, ap, sym, add-one, arith}
+use Rattle.std.proofs.Common.{ℕ, ◌+◌, ◌≤◌, length, replicate, get_or, set, List, ◌∙◌, ◌≡◌, ap, sym, add-one, arith}
 use Rattle.std.proofs.lemmas.List.{length-replicate, get_or-replicate}
 use Rattle.std.proofs.lemmas.List.Edits.{length-paste}
 use Rattle.std.proofs.Math.Seq.{paste, paste-zero}
