@@ -62,7 +62,8 @@ fn give_sections(
 }
 
 // Opening and every later call, each on the state that the call before it gave back, unless one of
-// them would be refused: then its number.
+// them would be refused: then its number. It is not inlined, so that planning's room on the stack is not beside its own.
+#[inline(never)]
 fn run_planned(
     plan: Plan,
     rows: &[u64],
