@@ -6,9 +6,4 @@ pub mod Lengths
 pub mod Traces
 pub mod PartsLaws
 pub mod Sums
-pub mod JudgingLaws
-pub mod PaddingLaws
-pub mod Kept
-pub mod Accepted
-pub mod Full
 mod Worked

@@ -1,6 +1,5 @@
 pub mod Circuit
-pub mod CircuitLaws
+pub mod Planned
 pub mod Steps
 pub mod Listed
-pub mod Accepted
 pub mod Worked

@@ -6,7 +6,7 @@ ghost use Rattle.columns.specs.Sections.{sections_number};
 ghost use Rattle.claim.specs.Chain.{chained};
 ghost use Rattle.claim.specs.Keeping.{keeping};
 ghost use Rattle.stage.specs.Circuit.{calls, refused_by, stage_answer, stage_left};
-ghost use Rattle.stage.specs.CircuitLaws.{planned_left};
+ghost use Rattle.stage.specs.Planned.{planned_left};
 
 use columns::intake::Intake;
 use columns::sections::sections_number;

@@ -3,7 +3,7 @@ use native.Mathlib.Nat.{div-mul-le_self}
 use Rattle.std.proofs.Common.{◌≡◌, sym, ◌∙◌, ap, arith, ℕ, ◌+◌, ◌-◌, length}
 use Rattle.selector.specs.Refusals.{count_of_gates}
 use Rattle.padding.specs.Padding.{filler_from}
-use Rattle.padding.specs.JudgingLaws.{filler_here, filler_next, filler_none}
+use Rattle.padding.proofs.JudgingLaws.{filler_here, filler_next, filler_none}
 use Rattle.padding.proofs.judging.filler_gate.Goals as goal
 
 pub loop-g-init : goal.loop-g-init

@@ -15,7 +15,7 @@ use Rattle.columns.specs.Sections.{unpadded_call}
 use Rattle.listing.specs.Listing.{Words}
 use Rattle.padding.specs.Padding.{given, with_trace, filler_of}
 use Rattle.padding.specs.Judging.{Capped, six_of}
-use Rattle.padding.specs.JudgingLaws.{Reached, reached, pad_range, pad_planning, pad_21, pad_22, pad_own, refusal}
+use Rattle.padding.proofs.JudgingLaws.{Reached, reached, pad_range, pad_planning, pad_21, pad_22, pad_own, refusal}
 use Rattle.padding.proofs.judging.judge.Goals as goal
 
 -- the length, by the code's bound

@@ -3,7 +3,7 @@ use Rattle.std.proofs.Common.{sym, ap, ◌∙◌}
 use Rattle.listing.specs.Listing.{Reading}
 use Rattle.listing.proofs.ReaderLaws.{read_whole, read_refused}
 use Rattle.padding.specs.Padding.{pad_by, pad_left_by, pad_answer, pad_left}
-use Rattle.padding.specs.PaddingLaws.{wrote_is}
+use Rattle.padding.proofs.PaddingLaws.{wrote_is}
 use Rattle.padding.proofs.padding.pad.Goals as goal
 
 pub pad_parts-requires : goal.pad_parts-requires

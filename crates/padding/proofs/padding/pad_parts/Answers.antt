@@ -14,7 +14,7 @@ use Rattle.writer.specs.PutLaws.{put_front}
 use Rattle.padding.specs.Padding.{length_of, filler_of, padded, pad_number}
 use Rattle.padding.specs.Judging.{Judging, six_of}
 use Rattle.padding.specs.Parts.{Small, Fitting, more_words, laid}
-use Rattle.padding.specs.PaddingLaws.{Good, good, length_covers, good_columns, ranges_of, rows_few, written-long, count_of_rows, count_of-tables, laid_is, room_is, padded-long, six_is, small_as, fitting_as, wrote_is}
+use Rattle.padding.proofs.PaddingLaws.{Good, good, length_covers, good_columns, ranges_of, rows_few, written-long, count_of_rows, count_of-tables, laid_is, room_is, padded-long, six_is, small_as, fitting_as, wrote_is}
 use Rattle.padding.proofs.padding.pad_parts.Goals as goal
 
 -- the numbers of a circuit that is not refused are small

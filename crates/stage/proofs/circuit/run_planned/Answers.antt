@@ -4,7 +4,7 @@ use Rattle.columns.specs.Intake.{store_of}
 use Rattle.claim.specs.Chain.{Kept, chained}
 use Rattle.claim.specs.Keeping.{by_opening}
 use Rattle.stage.specs.Circuit.{calls}
-use Rattle.stage.specs.CircuitLaws.{planned_refused, planned-taken}
+use Rattle.stage.proofs.CircuitLaws.{planned_refused, planned-taken}
 use Rattle.stage.proofs.circuit.run_planned.Goals as goal
 
 pub returns-then-number-ne0 : goal.returns-then-number-ne0

@@ -6,7 +6,8 @@ use Rattle.tree.specs.declared.planning.Planned.{Planned}
 use Rattle.columns.specs.Intake.{setting_of, store_of}
 use Rattle.columns.specs.Sections.{sections_number}
 use Rattle.stage.specs.Circuit.{stage_number, stage_left}
-use Rattle.stage.specs.CircuitLaws.{number_planning, number-sections, answer_refused, answer-taken, planned_left, left-planned}
+use Rattle.stage.specs.Planned.{planned_left}
+use Rattle.stage.proofs.CircuitLaws.{number_planning, number-sections, answer_refused, answer-taken, left-planned}
 use Rattle.stage.specs.declared.circuit.Staged.{Staged}
 use Rattle.stage.proofs.circuit.run_sections.Goals as goal
 

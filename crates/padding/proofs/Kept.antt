@@ -20,7 +20,7 @@ use Rattle.listing.specs.Writing.{written}
 use Rattle.listing.proofs.Written.{Sound, read-written}
 use Rattle.writer.specs.Besides.{besides_upper, besides_lower}
 use Rattle.padding.specs.Padding.{given, least, length_of, filler_from, filler_of, stretched, padded, pad_number}
-use Rattle.padding.specs.PaddingLaws.{good, good_columns, length_covers, padded_rows}
+use Rattle.padding.proofs.PaddingLaws.{good, good_columns, length_covers, padded_rows}
 use Rattle.padding.specs.Lengths.{power_least}
 
 -- "The length is the smallest power of two not below used rows plus one, the table rows and N." That it is not below them is `length_covers`.

@@ -21,16 +21,16 @@ use Rattle.listing.specs.Listing.{Reading, Words, or_twenty, read, refused, six_
 use Rattle.listing.specs.Writing.{written}
 use Rattle.listing.proofs.Written.{Sound, read_sound}
 use Rattle.stage.specs.Circuit.{stage_answer}
-use Rattle.stage.specs.CircuitLaws.{answer_refused, answer-taken, number-sections}
+use Rattle.stage.proofs.CircuitLaws.{answer_refused, answer-taken, number-sections}
 use Rattle.stage.specs.Listed.{listed_answer, listed_left, listed_whole}
-use Rattle.stage.specs.Accepted.{given, listed_right}
+use Rattle.stage.proofs.Accepted.{given, listed_right}
 use Rattle.stage.specs.declared.circuit.Staged.{Staged}
 use Rattle.writer.specs.Hand.{hand_answer}
 use Rattle.writer.proofs.HandLaws.{answer_other, answer-zero}
 use Rattle.padding.specs.Padding.{length_of, with_trace, padded_setting, padded, pad_number, pad_by, pad_left_by, pad_answer, pad_left}
-use Rattle.padding.specs.PaddingLaws.{Good, good, plan_fine, first_replaced}
-use Rattle.padding.specs.Kept.{padded-read}
-use Rattle.padding.specs.Accepted.{padded_accepted}
+use Rattle.padding.proofs.PaddingLaws.{Good, good, plan_fine, first_replaced}
+use Rattle.padding.proofs.Kept.{padded-read}
+use Rattle.padding.proofs.Accepted.{padded_accepted}
 
 module _ (w : Words) (q : Sound w) (g : Good w) (b : Store) where
   abbrev v : Words

@@ -28,8 +28,8 @@ use Rattle.listing.specs.Listing.{Words}
 use Rattle.listing.proofs.Written.{Sound}
 use Rattle.writer.specs.Besides.{besides}
 use Rattle.padding.specs.Padding.{given, length_of, padded_setting, filler_of, padded}
-use Rattle.padding.specs.PaddingLaws.{Good, Numbers, length_covers, good_columns, good_numbers, padded-s, padded-c}
-use Rattle.padding.specs.Kept.{filler_first, kept_rows}
+use Rattle.padding.proofs.PaddingLaws.{Good, Numbers, length_covers, good_columns, good_numbers, padded-s, padded-c}
+use Rattle.padding.proofs.Kept.{filler_first, kept_rows}
 
 -- ---- rows: missing rows have no fault as long as they are below N
 same_rows : (gs : Gates) (N r m g : ℕ) → g < gs.many → gs.bar g ≡ false → r + m ≤ N → rows_fault gs N r (replicate m (whole g 0 [])) ≡ 0

@@ -1,0 +1,6 @@
+-- Laws.
+pub mod JudgingLaws
+pub mod PaddingLaws
+pub mod Kept
+pub mod Accepted
+pub mod Full

@@ -1,0 +1,3 @@
+-- Laws.
+pub mod CircuitLaws
+pub mod Accepted
