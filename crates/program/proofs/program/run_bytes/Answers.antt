@@ -3,7 +3,7 @@ use Rattle.std.proofs.Common.{rules, ◌≡◌, sym, subst, List, ℕ, ◌<◌, 
 use Rattle.io.specs.Counts.{IsPrefixLen}
 use Rattle.octets.specs.Text.{sink, put}
 use Rattle.octets.specs.TextLaws.{put_counts}
-use Rattle.report.proofs.Lengths.{most_text}
+use Rattle.report.specs.Lengths.{most_text}
 use Rattle.program.specs.Program.{most_bytes, program_text, WholeIn, ReadOf}
 use Rattle.program.specs.ProgramLaws.{text-read}
 use Rattle.program.specs.Lengths.{whole_in}
