@@ -1,5 +1,5 @@
 -- `program::program::run_bytes` meets its contract: the two rooms have the lengths of their types, which is enough for every text and shows every input that is too long.
-use Rattle.std.proofs.Common.{rules, ◌≡◌, sym, subst, List, ℕ, ◌<◌, ◌≤◌, arith, length, take, length-take-le, take_all}
+use Rattle.std.proofs.Common.{◌≡◌, sym, subst, List, ℕ, ◌<◌, ◌≤◌, arith, length, take, length-take-le, take_all}
 use Rattle.io.specs.Counts.{IsPrefixLen}
 use Rattle.octets.specs.Text.{sink, put}
 use Rattle.octets.specs.TextLaws.{put_counts}
@@ -17,10 +17,8 @@ told room old new many r h k e = (put_counts old new _ r e, (whole_in (take many
 pub returns-then-room-many : goal.returns-then-room-many
 returns-then-room-many c =
     let a = c.args in
-    let l : length a.input.now ≡ 65537 = search rules in
-    let o : length a.out.now ≡ 540672 = search rules in
-    let e = subst (λ (bytes : List ℕ). sink c.run_read.new.out c.run_read.result ≡ put (sink a.out.now 0) (program_text bytes)) (sym (take_all a.many a.input.now (omega (arith, l, c.if-room-many.true)))) c.run_read.ensures in
-    let both = told a.input.now a.out.now _ a.many _ (omega (arith, l)) (omega (arith, o)) e in
+    let e = subst (λ (bytes : List ℕ). sink c.run_read.new.out c.run_read.result ≡ put (sink a.out.now 0) (program_text bytes)) (sym (take_all a.many a.input.now (omega (arith, c.told-input, c.if-room-many.true)))) c.run_read.ensures in
+    let both = told a.input.now a.out.now _ a.many _ (omega (arith, c.told-input)) (omega (arith, c.told-out)) e in
     record { prefix_len = both.0; whole_in = both.1.0; by_index = both.1.1 }
 
 pub slice_bounds-run_read-end-2 : goal.slice_bounds-run_read-end-2
@@ -31,7 +29,5 @@ slice_bounds-run_read-end-2 c =
 pub returns : goal.returns
 returns c =
     let a = c.args in
-    let l : length a.input.now ≡ 65537 = search rules in
-    let o : length a.out.now ≡ 540672 = search rules in
-    let both = told a.input.now a.out.now _ a.many _ (omega (arith, l)) (omega (arith, o)) c.run_read-2.ensures in
+    let both = told a.input.now a.out.now _ a.many _ (omega (arith, c.told-input)) (omega (arith, c.told-out)) c.run_read-2.ensures in
     record { prefix_len = both.0; whole_in = both.1.0; by_index = both.1.1 }
