@@ -7,15 +7,10 @@ ghost use Rattle.field.specs.Field.{p, fpow, is_non_residue};
 ghost use Rattle.labels.specs.Ranges.{ranges_fit, most_columns};
 ghost use Rattle.labels.specs.Labels.{Columns, domain_generator, absent, first_column, tried, found, taken_one, powers_taken, representatives_number, representatives_of, powers_of, taken_of, label_of, label_number, label_answer, fill_number, labels_written};
 ghost use Rattle.labels.specs.Stored.{stored, no_representatives};
+ghost use Rattle.refusal.specs.Refusal.{answer_number, answer_or};
 ghost use Rattle.labels.specs.Stretches.{root_power, scaled_from, negated_from, HalfTurn, ColumnZero};
 
-// The refusal numbers of 01: N, C or a cell is out of range; the candidates reach p; a lent slice
-// is too short.
-pub const OUT_OF_RANGE: u64 = 1;
-
-pub const CANDIDATES_REACH_P: u64 = 9;
-
-pub const BUFFER_TOO_SHORT: u64 = 10;
+use refusal::Refusal;
 
 pub const LONGEST_TRACE: u64 = 65536;
 
@@ -28,16 +23,7 @@ pub type ColumnWords = [u64; MOST_COLUMNS as usize];
 pub fn ranges_fit(n: u64, c: u64) -> bool
     ensures { result ≡ ranges_fit n c }
 {
-    if LONGEST_TRACE < n {
-        return false;
-    }
-    if base::is_power(n) {
-        if c < 1 {
-            return false;
-        }
-        return c <= MOST_COLUMNS;
-    }
-    false
+    n <= LONGEST_TRACE && base::is_power(n) && 1 <= c && c <= MOST_COLUMNS
 }
 
 // w, whose powers are the domain of length n.
@@ -45,10 +31,8 @@ fn domain_generator_for_size(n: u64) -> u64
     ensures { result ≡ domain_generator n }
 {
     let mut w = field::generator();
-    let mut e = base::power_above(n).exponent;
-    while e < 32 {
+    for e in base::power_above(n).exponent..32 {
         w = field::mul(w, w);
-        e = e + 1;
     }
     w
 }
@@ -57,37 +41,39 @@ fn domain_generator_for_size(n: u64) -> u64
 fn is_absent(x: u64, words: &[u64]) -> bool
     ensures { result ≡ absent x words.now }
 {
-    let mut i = 0;
-    while i < words.len() {
-        if x == words[i] {
-            return false;
-        }
-        i += 1;
-    }
-    true
+    !words.contains(&x)
 }
 
 // The columns that have a representative, column 0 among them: the representatives, and beside
-// each its N-th power. The words past them are 0. Also the number of N-th powers taken so far.
+// each its N-th power. The words past them are 0. Also how many N-th powers were taken, one for each
+// non-residue tried.
 #[derive(Clone, Copy)]
-struct NonResidues {
-    kept: u64,
-    values: ColumnWords,
-    powers: ColumnWords,
-    taken: u64,
+pub struct NonResidues {
+    pub kept: u64,
+    pub values: ColumnWords,
+    pub powers: ColumnWords,
+    pub taken: u64,
 }
 
 impl NonResidues {
+    // No column: what a caller writes out after a refusal.
+    pub fn none() -> Self
+        ensures { result ≡ no_representatives }
+    {
+        NonResidues {
+            kept: 0,
+            values: [0; MOST_COLUMNS as usize],
+            powers: [0; MOST_COLUMNS as usize],
+            taken: 0,
+        }
+    }
+
     // Column 0, whose representative is 1, and so is its power; no power was taken.
     fn first_column() -> Self
         ensures { result ≡ stored first_column 0 }
     {
-        let mut first = NonResidues {
-            kept: 1,
-            values: [0; MOST_COLUMNS as usize],
-            powers: [0; MOST_COLUMNS as usize],
-            taken: 0,
-        };
+        let mut first = NonResidues::none();
+        first.kept = 1;
         first.values[0] = 1;
         first.powers[0] = 1;
         first
@@ -101,13 +87,13 @@ impl NonResidues {
     {
         if field::is_non_residue(candidate) {
             let power = field::pow(candidate, n);
-            self.taken = self.taken + 1;
+            self.taken += 1;
             let kept = self.kept as usize;
             let powers = self.powers;
             if is_absent(power, &powers[..kept]) {
                 self.values[kept] = candidate;
                 self.powers[kept] = power;
-                self.kept = self.kept + 1;
+                self.kept += 1;
             }
         }
         self
@@ -120,98 +106,46 @@ fn make_non_residues(n: u64, c: u64) -> NonResidues
     ensures { result ≡ stored (found n c) (powers_taken n c) }
 {
     let mut found = NonResidues::first_column();
-    let mut candidate: u64 = 2;
-    while candidate < field::P {
+    for candidate in 2..field::P {
         if c <= found.kept {
             return found;
         }
         found = found.try_candidate(n, candidate);
-        candidate = candidate + 1;
     }
     found
 }
 
 // The representatives of columns 0 to C - 1, their N-th powers, and zeros past both; how many N-th
-// powers were taken, one for each non-residue tried. Number 1 or 9 is a refusal, and all else is
-// then 0.
-#[derive(Clone, Copy)]
-pub struct RepresentativesAnswer {
-    pub number: u64,
-    pub values: ColumnWords,
-    pub powers: ColumnWords,
-    pub taken: u64,
-}
-
-// A refused answer.
-fn no_representatives(number: u64) -> RepresentativesAnswer
-    ensures { result ≡ no_representatives number }
+// powers were taken. N or C out of range, then candidates that reach p.
+pub fn representatives(n: u64, c: u64) -> Result<NonResidues, Refusal>
+    ensures number_value { answer_number result ≡ representatives_number n c }
+    ensures values_value { (answer_or no_representatives result).values ≡ representatives_of n c }
+    ensures powers_value { (answer_or no_representatives result).powers ≡ powers_of n c }
+    ensures taken_value { (answer_or no_representatives result).taken ≡ taken_of n c }
 {
-    let none = [0; MOST_COLUMNS as usize];
-    RepresentativesAnswer {
-        number: number,
-        values: none,
-        powers: none,
-        taken: 0,
+    if !ranges_fit(n, c) {
+        return Err(Refusal::Parameter);
     }
+    let found = make_non_residues(n, c);
+    if found.kept < c {
+        return Err(Refusal::NoLabels);
+    }
+    Ok(found)
 }
 
-pub fn representatives(n: u64, c: u64) -> RepresentativesAnswer
-    ensures number_value { result.number ≡ representatives_number n c }
-    ensures values_value { result.values ≡ representatives_of n c }
-    ensures powers_value { result.powers ≡ powers_of n c }
-    ensures taken_value { result.taken ≡ taken_of n c }
+// The label of the cell (c, r) whose number is cN + r. N, C or the cell out of range, then candidates
+// that reach p.
+pub fn label(n: u64, c: u64, cell: u64) -> Result<u64, Refusal>
+    ensures number_value { answer_number result ≡ label_number n c cell }
+    ensures value_value { answer_or 0 result ≡ label_answer n c cell }
 {
-    if ranges_fit(n, c) {
-        let found = make_non_residues(n, c);
-        if found.kept < c {
-            return no_representatives(CANDIDATES_REACH_P);
-        }
-        let values = found.values;
-        let powers = found.powers;
-        return RepresentativesAnswer {
-            number: 0,
-            values: values,
-            powers: powers,
-            taken: found.taken,
-        };
+    if !ranges_fit(n, c) || c * n <= cell {
+        return Err(Refusal::Parameter);
     }
-    no_representatives(OUT_OF_RANGE)
-}
-
-// A label; number 1 or 9 is a refusal, and the value is then 0.
-#[derive(Clone, Copy)]
-pub struct LabelAnswer {
-    pub number: u64,
-    pub value: u64,
-}
-
-// The label of the cell (c, r) whose number is cN + r.
-pub fn label(n: u64, c: u64, cell: u64) -> LabelAnswer
-    ensures number_value { result.number ≡ label_number n c cell }
-    ensures value_value { result.value ≡ label_answer n c cell }
-{
-    if ranges_fit(n, c) {
-        if cell < c * n {
-            let found = representatives(n, c);
-            if found.number != 0 {
-                return LabelAnswer {
-                    number: found.number,
-                    value: 0,
-                };
-            }
-            let values = found.values;
-            let column = (cell / n) as usize;
-            let power = field::pow(domain_generator_for_size(n), cell % n);
-            return LabelAnswer {
-                number: 0,
-                value: field::mul(values[column], power),
-            };
-        }
-    }
-    LabelAnswer {
-        number: OUT_OF_RANGE,
-        value: 0,
-    }
+    let values = representatives(n, c)?.values;
+    let column = (cell / n) as usize;
+    let power = field::pow(domain_generator_for_size(n), cell % n);
+    Ok(field::mul(values[column], power))
 }
 
 // The n words from `at` on: k times the first n, word by word.
@@ -219,10 +153,8 @@ fn materialize_x_by_non_residue(k: u64, at: usize, n: usize, copies: &mut [u64])
     requires { (n ≤ at) × (at + n ≤ length copies.old) }
     ensures { Filled (scaled_from k at copies.old) at (at + n) copies.old copies.new }
 {
-    let mut r: usize = 0;
-    while r < n {
+    for r in 0..n {
         copies[at + r] = field::mul(k, copies[r]);
-        r += 1;
     }
 }
 
@@ -233,10 +165,8 @@ fn negate(at: usize, half: usize, rest: usize, copies: &mut [u64])
     requires { (rest ≤ half) × (at + half + rest ≤ length copies.old) }
     ensures { Filled (negated_from half copies.old) (at + half) (at + half + rest) copies.old copies.new }
 {
-    let mut r: usize = 0;
-    while r < rest {
+    for r in 0..rest {
         copies[at + half + r] = field::sub(0, copies[at + r]);
-        r += 1;
     }
 }
 
@@ -247,11 +177,9 @@ fn powers(n: u64, rows: usize, copies: &mut [u64])
 {
     let w = domain_generator_for_size(n);
     let mut x: u64 = 1;
-    let mut r: usize = 0;
-    while r < rows {
+    for r in 0..rows {
         copies[r] = x;
         x = field::mul(x, w);
-        r += 1;
     }
 }
 
@@ -273,33 +201,27 @@ fn materialize_x_by_non_residue_polys(n: usize, c: usize, values: &ColumnWords, 
 {
     let rest = n / 2;
     let half = n - rest;
-    let mut column: usize = 1;
-    while column < c {
+    for column in 1..c {
         let at = column * n;
         materialize_x_by_non_residue(values[column], at, half, copies);
         negate(at, half, rest, copies);
-        column += 1;
     }
 }
 
-// The labels of all cells into the first C N words, every word past them kept. 0, or the refusal
-// 1, 10 or 9, which writes no word.
-pub fn fill_labels(n: u64, c: u64, copies: &mut [u64]) -> u64
-    ensures value { result ≡ fill_number n c copies.old }
+// The labels of all cells into the first C N words, every word past them kept. N or C out of range, then
+// a buffer too short, then candidates that reach p; a refusal writes no word.
+pub fn fill_labels(n: u64, c: u64, copies: &mut [u64]) -> Result<(), Refusal>
+    ensures value { answer_number result ≡ fill_number n c copies.old }
     ensures copies_after { copies.new ≡ labels_written n c copies.old }
 {
-    if ranges_fit(n, c) {
-        if c * n <= copies.len() as u64 {
-            let found = representatives(n, c);
-            if found.number != 0 {
-                return found.number;
-            }
-            let values = found.values;
-            materialize_x_poly(n, copies);
-            materialize_x_by_non_residue_polys(n as usize, c as usize, &values, copies);
-            return 0;
-        }
-        return BUFFER_TOO_SHORT;
+    if !ranges_fit(n, c) {
+        return Err(Refusal::Parameter);
     }
-    OUT_OF_RANGE
+    if (copies.len() as u64) < c * n {
+        return Err(Refusal::ShortBuffer);
+    }
+    let found = representatives(n, c)?;
+    materialize_x_poly(n, copies);
+    materialize_x_by_non_residue_polys(n as usize, c as usize, &found.values, copies);
+    Ok(())
 }

@@ -1,6 +1,6 @@
 -- The refusals and their numbers, and what a call answers as a number.
 --
--- Main definitions: `refusal_number`, `answer_number`.
+-- Main definitions: `refusal_number`, `answer_number`, `answer_or`.
 use Rattle.std.specs.Prelude.{ℕ, Result, Ok, Err}
 use Rattle.refusal.specs.declared.Refusal.{Refusal}
 use Rattle.refusal.specs.declared.Refusal.TheVariants.{Parameter, ShareFlag, GateCount, GateRecord, LookupGate, NothingEvaluated, Constants, NoPlace, NoLabels, ShortBuffer, NotAnElement, RowRecord, TooMany, Variable, Table, Incomplete, UnusedGate, Scratch, MadeUp, Listing, NoMarker, TooLong, MarkerRow}
@@ -35,3 +35,8 @@ refusal_number MarkerRow = 23
 abbrev pub answer_number : {A : Type 0} → Result A Refusal → ℕ
 answer_number (Ok x) = 0
 answer_number (Err refusal) = refusal_number refusal
+
+-- what was answered, and a value in its place after a refusal
+abbrev pub answer_or : {A : Type 0} → A → Result A Refusal → A
+answer_or none (Ok x) = x
+answer_or none (Err refusal) = none

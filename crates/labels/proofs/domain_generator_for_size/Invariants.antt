@@ -6,6 +6,3 @@ use Rattle.labels.proofs.domain_generator_for_size.Given as goal
 
 abbrev pub invariant-loop-e : goal.invariant-loop-e
 invariant-loop-e l = domain_generator l.n ≡ squared (32 - l.e) l.w
-
-abbrev pub decreases-loop-e : goal.decreases-loop-e
-decreases-loop-e l = 32 - l.e

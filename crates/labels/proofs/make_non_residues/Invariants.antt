@@ -20,6 +20,3 @@ pub record Searching (n c k : ℕ) (f : NonResidues) : Type 0 where
 
 abbrev pub invariant-loop-candidate : goal.invariant-loop-candidate
 invariant-loop-candidate l = Searching l.n l.c l.candidate l.found
-
-abbrev pub decreases-loop-candidate : goal.decreases-loop-candidate
-decreases-loop-candidate l = p - l.candidate
