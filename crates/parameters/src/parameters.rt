@@ -1,8 +1,10 @@
 // The eight parameter words, and the refusals 1 and 2.
 ghost use Rattle.std.specs.Prelude.{◌≡◌, get_or};
 ghost use Rattle.parameters.specs.Parameters.{parameters_at, range_number, flag_number, parameters_number, lookup_of};
+ghost use Rattle.refusal.specs.Refusal.{answer_number};
 
 use crate::lookup::LookupParameters;
+use refusal::Refusal;
 
 // "A: constants allowed, 0..16. S: specialised constant columns, 0..16. V: variables, 0..1,048,576." W is 1..16 in modes 1 to 4.
 const MOST_CONSTANTS: u64 = 16;
@@ -33,10 +35,7 @@ pub struct Parameters {
 fn word_or_zero(words: &[u64], at: usize) -> u64
     ensures { result ≡ get_or words.now at 0 }
 {
-    if at < words.len() {
-        return words[at];
-    }
-    0
+    words.get(at).copied().unwrap_or(0)
 }
 
 // The eight parameter words; one that is missing is 0.
@@ -56,106 +55,82 @@ pub fn parameters_at(words: &[u64]) -> Parameters
 }
 
 impl Parameters {
-    // 1 for a parameter outside its range.
-    fn range_number(self) -> u64
-        ensures { result ≡ range_number self }
+    // Whether each parameter is within its range.
+    #[tactic(auto, unfolding(crate::specs::Parameters::range_number))]
+    fn check_ranges(self) -> Result<(), Refusal>
+        ensures { answer_number result ≡ range_number self }
     {
-        if labels::ranges_fit(self.trace, self.copy) {
-            if MOST_CONSTANTS < self.allowed {
-                return 1;
-            }
-            if MOST_SPECIALISED < self.specialised {
-                return 1;
-            }
-            if MOST_VARIABLES < self.variables {
-                return 1;
-            }
-            if self.mode == 0 {
-                if self.width == 0 {
-                    if self.share == 0 {
-                        return 0;
-                    }
-                }
-                return 1;
-            }
-            if 4 < self.mode {
-                return 1;
-            }
-            if self.width < 1 {
-                return 1;
-            }
-            if MOST_WIDTH < self.width {
-                return 1;
-            }
-            if 1 < self.share {
-                return 1;
-            }
-            if self.mode == 4 {
-                if self.specialised < 1 {
-                    return 1;
-                }
-            }
-            return 0;
+        if !labels::ranges_fit(self.trace, self.copy) {
+            return Err(Refusal::Parameter);
         }
-        1
+        if MOST_CONSTANTS < self.allowed {
+            return Err(Refusal::Parameter);
+        }
+        if MOST_SPECIALISED < self.specialised {
+            return Err(Refusal::Parameter);
+        }
+        if MOST_VARIABLES < self.variables {
+            return Err(Refusal::Parameter);
+        }
+        if self.mode == 0 && self.width == 0 && self.share == 0 {
+            return Ok(());
+        }
+        if self.mode == 0 || 4 < self.mode {
+            return Err(Refusal::Parameter);
+        }
+        if self.width < 1 || MOST_WIDTH < self.width || 1 < self.share {
+            return Err(Refusal::Parameter);
+        }
+        if self.mode == 4 && self.specialised < 1 {
+            return Err(Refusal::Parameter);
+        }
+        Ok(())
     }
 
-    // 2 for flag 0 in mode 2 or 4.
-    fn flag_number(self) -> u64
-        ensures { result ≡ flag_number self }
+    // Flag 0 in mode 2 or 4.
+    #[tactic(auto, unfolding(crate::specs::Parameters::flag_number))]
+    fn check_flag(self) -> Result<(), Refusal>
+        ensures { answer_number result ≡ flag_number self }
     {
-        if self.share == 0 {
-            if self.mode == 2 {
-                return 2;
-            }
-            if self.mode == 4 {
-                return 2;
-            }
+        match self.mode {
+            2 | 4 if self.share == 0 => Err(Refusal::ShareFlag),
+            _ => Ok(()),
         }
-        0
     }
 
-    // The refusal of the parameters, 1 or 2, or 0.
-    pub fn number(self) -> u64
-        ensures { result ≡ parameters_number self }
+    // A parameter outside its range, then a missing share flag.
+    pub fn check(self) -> Result<(), Refusal>
+        ensures { answer_number result ≡ parameters_number self }
     {
-        let range = self.range_number();
-        if range != 0 {
-            return range;
-        }
-        self.flag_number()
+        self.check_ranges()?;
+        self.check_flag()
     }
 
     // The lookup mode that the words tell of.
+    #[tactic(auto, unfolding(crate::specs::Parameters::lookup_of))]
     pub fn lookup(self) -> LookupParameters
         ensures { result ≡ lookup_of self }
     {
         let width = self.width;
-        let share = self.share == 1;
-        if self.mode == 1 {
-            return LookupParameters::TableIdAsVariable {
-                width: width,
-                share_table_id: share,
-            };
+        let share_table_id = self.share == 1;
+        match self.mode {
+            1 => LookupParameters::TableIdAsVariable {
+                width,
+                share_table_id,
+            },
+            2 => LookupParameters::TableIdAsConstant {
+                width,
+                share_table_id,
+            },
+            3 => LookupParameters::UseSpecializedColumnsWithTableIdAsVariable {
+                width,
+                share_table_id,
+            },
+            4 => LookupParameters::UseSpecializedColumnsWithTableIdAsConstant {
+                width,
+                share_table_id,
+            },
+            _ => LookupParameters::NoLookup,
         }
-        if self.mode == 2 {
-            return LookupParameters::TableIdAsConstant {
-                width: width,
-                share_table_id: share,
-            };
-        }
-        if self.mode == 3 {
-            return LookupParameters::UseSpecializedColumnsWithTableIdAsVariable {
-                width: width,
-                share_table_id: share,
-            };
-        }
-        if self.mode == 4 {
-            return LookupParameters::UseSpecializedColumnsWithTableIdAsConstant {
-                width: width,
-                share_table_id: share,
-            };
-        }
-        LookupParameters::NoLookup
     }
 }
