@@ -8,10 +8,7 @@ ghost use Rattle.base.specs.Exponent.{exponent, is_power};
 pub fn greater(a: u64, b: u64) -> u64
     ensures { result ≡ max a b }
 {
-    if a < b {
-        return b;
-    }
-    a
+    a.max(b)
 }
 
 // A power of two: its exponent, and its value as far as a word holds it.
@@ -21,25 +18,23 @@ pub struct Power {
     pub value: u64,
 }
 
+// 2^63, the largest power of two that is a word.
+const LARGEST_POWER: u64 = 9223372036854775808;
+
 // The smallest power of two not below n. Above 2^63 that is 2^64, whose word is 0.
 pub fn power_above(n: u64) -> Power
     ensures { (result.exponent ≡ exponent n) × (result.value ≡ 2 ^ exponent n % 2 ^ 64) }
 {
-    if 9223372036854775808 < n {
+    if LARGEST_POWER < n {
         return Power {
             exponent: 64,
             value: 0,
         };
     }
-    let mut e: u64 = 0;
-    let mut p: u64 = 1;
-    while p < n {
-        p = p * 2;
-        e = e + 1;
-    }
+    let value = n.next_power_of_two();
     Power {
-        exponent: e,
-        value: p,
+        exponent: u64::from(value.ilog2()),
+        value,
     }
 }
 
