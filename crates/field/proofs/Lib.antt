@@ -1,5 +1,4 @@
 -- Laws that only the proofs of this crate use.
-pub mod Product
 pub mod Wide
 pub mod Numerals
 pub mod FieldLaws

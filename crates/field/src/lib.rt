@@ -22,7 +22,7 @@ pub fn add(a: u64, b: u64) -> u64
     ensures { result ≡ fadd a b }
 {
     let x = reduce(a);
-    let s = std::num::wrapping_add_u64(x, b);
+    let s = x.wrapping_add(b);
     let w = if s < x { s + EPSILON } else { s };
     reduce(w)
 }
@@ -36,43 +36,16 @@ pub fn sub(a: u64, b: u64) -> u64
     if y <= x { x - y } else { x + (P - y) }
 }
 
-// The upper word of u * v. Each half of the product has a function of its own: the compiler
-// makes one widening multiplication of the two.
-fn high_product(u: u64, v: u64) -> u64
-    ensures { result ≡ u * v / 2 ^ 64 }
-{
-    let u0 = u % 0x1_0000_0000;
-    let u1 = u >> 32;
-    let v0 = v % 0x1_0000_0000;
-    let v1 = v >> 32;
-    let w0 = u0 * v0;
-    let t = u1 * v0 + (w0 >> 32);
-    let w1 = t % 0x1_0000_0000 + u0 * v1;
-    u1 * v1 + (t >> 32) + (w1 >> 32)
-}
-
-// The lower word of u * v.
-fn low_product(u: u64, v: u64) -> u64
-    ensures { result ≡ u * v % 2 ^ 64 }
-{
-    let u0 = u % 0x1_0000_0000;
-    let u1 = u >> 32;
-    let v0 = v % 0x1_0000_0000;
-    let v1 = v >> 32;
-    let cross = std::num::wrapping_add_u64(u1 * v0, u0 * v1);
-    std::num::wrapping_add_u64(cross << 32, u0 * v0)
-}
-
 // A word that is h * 2^64 + l modulo p: 2^64 is 2^32 - 1, and 2^96 is -1.
 fn fold(h: u64, l: u64) -> u64
     ensures { result % p ≡ (h * 2 ^ 64 + l) % p }
 {
     let hh = h >> 32;
     let hl = h % 0x1_0000_0000;
-    let d = std::num::wrapping_sub_u64(l, hh);
+    let d = l.wrapping_sub(hh);
     let t = if l < hh { d - EPSILON } else { d };
     let m = hl * EPSILON;
-    let s = std::num::wrapping_add_u64(t, m);
+    let s = t.wrapping_add(m);
     if s < m { s + EPSILON } else { s }
 }
 
@@ -80,7 +53,10 @@ fn fold(h: u64, l: u64) -> u64
 pub fn mul(a: u64, b: u64) -> u64
     ensures { result ≡ fmul a b }
 {
-    reduce(fold(high_product(a, b), low_product(a, b)))
+    let product = u128::from(a) * u128::from(b);
+    let high = (product >> 64) as u64;
+    let low = (product % 0x1_0000_0000_0000_0000) as u64;
+    reduce(fold(high, low))
 }
 
 // base to the power exp, by the exponent's bits from the lowest. Any word to the power 0 is 1.

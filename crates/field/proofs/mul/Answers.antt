@@ -6,7 +6,4 @@ use Rattle.field.proofs.mul.Goals as goal
 pub returns : goal.returns
 returns c =
     let a = c.args in
-    c.reduce.ensures
-    ∙ c.fold.ensures
-    ∙ rw (c.high_product.ensures, c.low_product.ensures)
-    (ap (λ (x : ℕ). x % p) (div-add-mod' (a.a * a.b) (2 ^ 64)))
+    c.reduce.ensures ∙ c.fold.ensures ∙ rw (c.from.ensures, c.from-2.ensures) (ap (λ (x : ℕ). x % p) (div-add-mod' (a.a * a.b) (2 ^ 64)))
