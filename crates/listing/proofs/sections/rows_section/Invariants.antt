@@ -1,5 +1,4 @@
--- `listing::sections::rows_section` meets its contract. The loop's invariant, `Going`: the rows end where those that are left end, from i on. A row that does not fit ends past the words, and
--- so do all (`going_gone`).
+-- The loop of `listing::sections::rows_section`: its rows end where those that are left end, from i on (`Going`). A row that does not fit ends past the words, and so do all (`going_gone`).
 use Rattle.pieces.specs.Records.{row_size}
 use Rattle.listing.specs.EndLaws.{Going}
 use Rattle.listing.proofs.sections.rows_section.Given as goal

@@ -1,5 +1,4 @@
--- `listing::sections::tables_section` meets its contract. The loop's invariant, `Going`: the tables end where those that are left end, from i on. What `product_within` answers is `fitting` or
--- `too_long`, and the product is made only after it.
+-- The loop of `listing::sections::tables_section`: its tables end where those that are left end, from i on (`Going`). A table that does not fit ends past the words, and so do all (`going_gone`).
 use Rattle.pieces.specs.Records.{table_size}
 use Rattle.listing.specs.EndLaws.{Going}
 use Rattle.listing.proofs.sections.tables_section.Given as goal
