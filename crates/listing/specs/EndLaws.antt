@@ -202,3 +202,6 @@ module _ (xs : List ℕ) (at : ℕ) where
   found_whole G R S C T E p g r s c t ep eg er es ec et h k q =
       let six : Ok (record { parameters = p; gates = g; rows = r; s_words = s; cells = c; tables = t }) ≡ Ok (sections_at at G R S C T E) = cc in
       six ∙ sym (listing-judged xs at G R S C T E h ∙ judged_whole xs at G R S C T E k q)
+
+-- what a loop over the records of a section is proved by
+pub ruleset record_walk = (missing, records_past, going_begin, going_next, going_gone, going_done)

@@ -48,14 +48,14 @@ fn fixed_section(words: &[u64], at: usize, each: u64) -> Option<Part>
 }
 
 // The rows whose count stands at a place. A row is two words, gate and number of constants, and the constants.
-#[tactic(auto, using(crate::specs::EndLaws::missing, crate::specs::EndLaws::records_past, crate::specs::EndLaws::going_begin, crate::specs::EndLaws::going_next, crate::specs::EndLaws::going_gone, crate::specs::EndLaws::going_done))]
+#[tactic(auto, using(crate::specs::EndLaws::record_walk))]
 fn rows_section(words: &[u64], at: usize) -> Option<Part>
     ensures { result ≡ section_of (length words.now) at (records_end row_size words.now at) }
 {
-    let mut left = *words.get(at)?;
+    let count = *words.get(at)?;
     let start = at + 1;
     let mut i = start;
-    while 0 < left {
+    for _row in 0..count {
         if words.len() - i < 2 {
             return None;
         }
@@ -64,7 +64,6 @@ fn rows_section(words: &[u64], at: usize) -> Option<Part>
             return None;
         }
         i += 2 + n;
-        left -= 1;
     }
     Some(Part {
         start,
@@ -73,14 +72,14 @@ fn rows_section(words: &[u64], at: usize) -> Option<Part>
 }
 
 // The tables whose count stands at a place. A table is two words, width and rows, and the contents.
-#[tactic(auto, using(crate::specs::EndLaws::missing, crate::specs::EndLaws::records_past, crate::specs::EndLaws::going_begin, crate::specs::EndLaws::going_next, crate::specs::EndLaws::going_gone, crate::specs::EndLaws::going_done))]
+#[tactic(auto, using(crate::specs::EndLaws::record_walk))]
 fn tables_section(words: &[u64], at: usize) -> Option<Part>
     ensures { result ≡ section_of (length words.now) at (records_end table_size words.now at) }
 {
-    let mut left = *words.get(at)?;
+    let count = *words.get(at)?;
     let start = at + 1;
     let mut i = start;
-    while 0 < left {
+    for _table in 0..count {
         if words.len() - i < 2 {
             return None;
         }
@@ -89,7 +88,6 @@ fn tables_section(words: &[u64], at: usize) -> Option<Part>
             return None;
         }
         i += 2 + n as usize;
-        left -= 1;
     }
     Some(Part {
         start,
