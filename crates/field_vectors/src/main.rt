@@ -13,12 +13,7 @@ fn answer(operation: u64, a: u64, b: u64) -> u64 {
         1 => field::sub(a, b),
         2 => field::mul(a, b),
         3 => field::pow(a, b),
-        _ => {
-            if field::is_non_residue(a) {
-                return 1;
-            }
-            0
-        }
+        _ => u64::from(field::is_non_residue(a)),
     }
 }
 
@@ -32,27 +27,15 @@ fn replay_record(bytes: &[u8], start: Replay) -> Replay {
     t.step().expect(bytes, answer(operation, a, b))
 }
 
-fn replay_records(bytes: &[u8], start: Replay, count: u64) -> Replay {
-    let mut s = start;
-    let mut left = count;
-    while 0 < left {
-        s = replay_record(bytes, s);
-        left -= 1;
-    }
-    s
-}
-
 fn main(rt: HostRuntime) -> io::Result<()> {
     let mut buffer = [0u8; 131072];
     let length = read_input(&mut rt.stdin(), &mut buffer)?;
     let bytes = &buffer[..length];
     let count = octets::words::word_at(bytes, 2);
-    let s = replay_records(bytes, Replay::new().step().step().step(), count);
+    let records = Replay::new().step().step().step();
+    let s = (0..count).fold(records, |s, _| replay_record(bytes, s));
     println!(rt; "records {count}")?;
-    let at = s.at;
-    println!(rt; "words {at}")?;
-    let compared = s.compared;
-    println!(rt; "comparisons {compared}")?;
-    let differences = s.differences;
-    println!(rt; "differences {differences}")
+    println!(rt; "words {}", s.at)?;
+    println!(rt; "comparisons {}", s.compared)?;
+    println!(rt; "differences {}", s.differences)
 }

@@ -1,4 +1,3 @@
-mod Moves
 pub mod ReaderLaws
 pub mod Worked
 pub mod Written

@@ -2,7 +2,7 @@
 --
 -- Main statements: `listing-read` (the words at the places that the code answers are those that the reader gives, refusal for refusal); from it `read_whole` and `read_refused` (what a caller
 -- knows after each of the code's answers), `refused_back`.
-use Rattle.std.specs.Prelude.{◌≡◌, ◌≢◌, List, ◌++◌, take, drop, leb}
+use Rattle.std.specs.Prelude.{◌≡◌, ◌≢◌, List, ◌++◌, take, drop, leb, Ok, Err}
 use Rattle.std.proofs.Math.Path.{refl, sym, ap}
 use Rattle.std.proofs.Common.{◌∙◌, drop-drop, take-add, length-take-le}
 use Rattle.std.proofs.Math.Option.{Option, none, some, bind}
@@ -17,13 +17,14 @@ use Rattle.base.specs.Drops.{drop-none, drop-one}
 use Rattle.selector.specs.Gates.{gate_words}
 use Rattle.pieces.specs.Records.{row_size, table_size}
 use Rattle.parameters.specs.Parameters.{parameter_words}
+use Rattle.refusal.specs.Refusal.{refusal_number}
+use Rattle.refusal.specs.declared.Refusal.{Refusal}
+use Rattle.refusal.specs.declared.Refusal.TheVariants.{Listing}
 use Rattle.listing.specs.Listing.{Taken, off, after, records, section, fixed, headed, Words, eight, ended, six_sections, whole, refused, or_twenty, read}
-use Rattle.listing.specs.Ends.{end_of, long_at, fixed_end, records_end, listing_from}
+use Rattle.listing.specs.Ends.{end_of, long_at, fixed_end, records_end, sections_at, judged, listing_from}
 use Rattle.listing.specs.Places.{words_at, parts_of}
 use Rattle.listing.specs.declared.sections.Sections.{Sections}
-use Rattle.listing.specs.declared.sections.Listing.{Listing}
-use Rattle.listing.specs.declared.sections.Listing.TheVariants.{Whole, Refused}
-use Rattle.listing.specs.EndLaws.{Ends, end-from, end-fixed, late_parameters, wrong_count, late_gates, late_rows, late_s, late_cells, late_tables, found_whole}
+use Rattle.listing.specs.EndLaws.{Ends, end-from, end-fixed, listing-judged, judged_count, judged_late, judged_whole, late_parameters, wrong_count, late_gates, late_rows, late_s, late_cells, late_tables, found_whole}
 
 -- the words between two places, and those after them
 abbrev between : List ℕ → ℕ → ℕ → Taken
@@ -176,7 +177,7 @@ module _ (xs : List ℕ) where
   parameters_gone h = rw (fixed_gone 1 0 h)
 
   -- both turn the listing down
-  both_refuse : Refused 20 ≡ listing_from xs 0 → six_sections xs ≡ none → parts_of xs (listing_from xs 0) ≡ read xs
+  both_refuse : Err Listing ≡ listing_from xs 0 → six_sections xs ≡ none → parts_of xs (listing_from xs 0) ≡ read xs
   unfolding read
   both_refuse p q = ap (parts_of xs) (sym p) ∙ sym (ap or_twenty q)
 
@@ -242,16 +243,25 @@ module _ (xs : List ℕ) where
   listing-read = read-parameters (dec_le g (length xs)) (ℕ_discrete (g - 1) parameter_words)
 
   -- what a caller knows once it has an answer of the code
-  pub read_whole : (s : Sections) → Whole s ≡ listing_from xs 0 → read xs ≡ whole (words_at xs s)
+  pub read_whole : (s : Sections) → Ok s ≡ listing_from xs 0 → read xs ≡ whole (words_at xs s)
   read_whole s q = sym (ap (parts_of xs) q ∙ listing-read)
 
-  pub read_refused : (n : ℕ) → Refused n ≡ listing_from xs 0 → read xs ≡ refused n
+  pub read_refused : (n : Refusal) → Err n ≡ listing_from xs 0 → read xs ≡ refused (refusal_number n)
   read_refused n q = sym (ap (parts_of xs) q ∙ listing-read)
 
   -- and back: what the reader turns down the code turns down, by the same number
-  pub refused_back : (n : ℕ) → read xs ≡ refused n → listing_from xs 0 ≡ Refused n
-  refused_back n q = go (listing_from xs 0) (listing-read ∙ q)
+  pub refused_back : (n : ℕ) → read xs ≡ refused n → (listing_from xs 0 ≡ Err Listing) × (refusal_number Listing ≡ n)
+  refused_back n q = (k, let h : refused (refusal_number Listing) ≡ refused n = ap (parts_of xs) (sym k) ∙ listing-read ∙ q in cc)
     where
-      go : (l : Listing) → parts_of xs l ≡ refused n → l ≡ Refused n
-      go (Whole s) h = absurd (let z : ◌≡◌ {A = ℕ} 0 1 = cc in omega arith)
-      go (Refused m) h = let k : m ≡ n = cc in ap Refused k
+      j : listing_from xs 0 ≡ judged xs 0 g r s c t e
+      j = listing-judged xs 0 g r s c t e every
+
+      go : Dec (g - 1 ≡ parameter_words) → Dec (e ≡ length xs) → listing_from xs 0 ≡ Err Listing
+      go (no p) d = j ∙ judged_count xs 0 g r s c t e p
+      go (yes p) (no d) = j ∙ judged_late xs 0 g r s c t e d
+      go (yes p) (yes d) =
+          let h : whole (words_at xs (sections_at 0 g r s c t e)) ≡ refused n = ap (parts_of xs) (sym (j ∙ judged_whole xs 0 g r s c t e p d)) ∙ listing-read ∙ q in
+          absurd cc
+
+      k : listing_from xs 0 ≡ Err Listing
+      k = go (ℕ_discrete (g - 1) parameter_words) (ℕ_discrete e (length xs))

@@ -1,18 +1,19 @@
 -- 01's worked listing, one for each reason of 20, and sizes that a product or a sum modulo 2^64 would get wrong: what the reader says and where the code's answer puts the
 -- sections, both computed.
-use Rattle.std.specs.Prelude.{◌≡◌, refl, List, [], ◌∷◌, ◌++◌, ℕ, ◌^◌, ◌-◌}
+use Rattle.std.specs.Prelude.{◌≡◌, refl, List, [], ◌∷◌, ◌++◌, ℕ, ◌^◌, ◌-◌, Result, Ok, Err}
 use Rattle.std.proofs.Math.Option.{bind}
+use Rattle.refusal.specs.declared.Refusal.{Refusal}
+use Rattle.refusal.specs.declared.Refusal.TheVariants.{Listing}
 use Rattle.listing.specs.Listing.{off, records, section, six_sections, Reading, whole, refused, read}
 use Rattle.listing.specs.Ends.{end_of, fixed_end, records_end, sections_at, judged, listing_from}
 use Rattle.listing.proofs.ReaderLaws.{refused_back}
-use Rattle.listing.specs.declared.sections.Listing.{Listing}
-use Rattle.listing.specs.declared.sections.Listing.TheVariants.{Whole, Refused}
+use Rattle.listing.specs.declared.sections.Sections.{Sections}
 
-abbrev Says : List ℕ → Reading → Listing → Type 0
+abbrev Says : List ℕ → Reading → Result Sections Refusal → Type 0
 Says xs a l = (read xs ≡ a) × (listing_from xs 0 ≡ l)
 
 abbrev Turns_down : List ℕ → Type 0
-Turns_down xs = Says xs (refused 20) (Refused 20)
+Turns_down xs = Says xs (refused 20) (Err Listing)
 
 -- "8: 2 2 1 0 2 0 0 0; 2: 0 2 1, 1 0 0; 2: 0 1 5, 1 0; 0; 4: 0 1 1 9223372036854775808; 0."
 parameters : List ℕ
@@ -35,7 +36,7 @@ after-parameters : List ℕ → List ℕ
 after-parameters ws = (8 ∷ parameters) ++ ws
 
 -- P8
-worked : Says (before-tables ++ (0 ∷ [])) (whole (record { parameters = parameters; gates = gates; rows = rows; s_words = []; cells = cells; tables = [] })) (Whole (sections_at 0 9 16 22 23 28 29))
+worked : Says (before-tables ++ (0 ∷ [])) (whole (record { parameters = parameters; gates = gates; rows = rows; s_words = []; cells = cells; tables = [] })) (Ok (sections_at 0 9 16 22 23 28 29))
 unfolding read six_sections section records off bind listing_from judged fixed_end records_end end_of parameters gates rows cells before-tables after-parameters
 worked = (refl, refl)
 
@@ -95,7 +96,7 @@ unfolding read six_sections section records off bind listing_from judged fixed_e
 table-cut = (refl, refl)
 
 -- two rows of three words, and none of two
-table_whole : Says (before-tables ++ (2 ∷ 3 ∷ 2 ∷ 1 ∷ 2 ∷ 3 ∷ 4 ∷ 5 ∷ 6 ∷ 2 ∷ 0 ∷ [])) (whole (record { parameters = parameters; gates = gates; rows = rows; s_words = []; cells = cells; tables = 3 ∷ 2 ∷ 1 ∷ 2 ∷ 3 ∷ 4 ∷ 5 ∷ 6 ∷ 2 ∷ 0 ∷ [] })) (Whole (sections_at 0 9 16 22 23 28 39))
+table_whole : Says (before-tables ++ (2 ∷ 3 ∷ 2 ∷ 1 ∷ 2 ∷ 3 ∷ 4 ∷ 5 ∷ 6 ∷ 2 ∷ 0 ∷ [])) (whole (record { parameters = parameters; gates = gates; rows = rows; s_words = []; cells = cells; tables = 3 ∷ 2 ∷ 1 ∷ 2 ∷ 3 ∷ 4 ∷ 5 ∷ 6 ∷ 2 ∷ 0 ∷ [] })) (Ok (sections_at 0 9 16 22 23 28 39))
 unfolding read six_sections section records off bind listing_from judged fixed_end records_end end_of parameters gates rows cells before-tables after-parameters
 table_whole = (refl, refl)
 
@@ -124,11 +125,11 @@ unfolding read six_sections section records off bind listing_from judged fixed_e
 many-gates = (refl, refl)
 
 -- a table of width 0 is two words long however many rows it says, and a table of no rows however wide it is
-thin_table : Says (after-parameters (0 ∷ 0 ∷ 0 ∷ 0 ∷ 1 ∷ 0 ∷ (2 ^ 64 - 1) ∷ [])) (whole (record { parameters = parameters; gates = []; rows = []; s_words = []; cells = []; tables = 0 ∷ (2 ^ 64 - 1) ∷ [] })) (Whole (sections_at 0 9 10 11 12 13 16))
+thin_table : Says (after-parameters (0 ∷ 0 ∷ 0 ∷ 0 ∷ 1 ∷ 0 ∷ (2 ^ 64 - 1) ∷ [])) (whole (record { parameters = parameters; gates = []; rows = []; s_words = []; cells = []; tables = 0 ∷ (2 ^ 64 - 1) ∷ [] })) (Ok (sections_at 0 9 10 11 12 13 16))
 unfolding read six_sections section records off bind listing_from judged fixed_end records_end end_of parameters gates rows cells before-tables after-parameters
 thin_table = (refl, refl)
 
-wide_table : Says (after-parameters (0 ∷ 0 ∷ 0 ∷ 0 ∷ 1 ∷ (2 ^ 64 - 1) ∷ 0 ∷ [])) (whole (record { parameters = parameters; gates = []; rows = []; s_words = []; cells = []; tables = (2 ^ 64 - 1) ∷ 0 ∷ [] })) (Whole (sections_at 0 9 10 11 12 13 16))
+wide_table : Says (after-parameters (0 ∷ 0 ∷ 0 ∷ 0 ∷ 1 ∷ (2 ^ 64 - 1) ∷ 0 ∷ [])) (whole (record { parameters = parameters; gates = []; rows = []; s_words = []; cells = []; tables = (2 ^ 64 - 1) ∷ 0 ∷ [] })) (Ok (sections_at 0 9 10 11 12 13 16))
 unfolding read six_sections section records off bind listing_from judged fixed_end records_end end_of parameters gates rows cells before-tables after-parameters
 wide_table = (refl, refl)
 
@@ -148,8 +149,8 @@ cells_counted = (refl, refl)
 -- so many records are no list to go through: the reader stops at the first that is missing, and the code's answer is its
 rows_counted : Turns_down (after-parameters (0 ∷ (2 ^ 64 - 1) ∷ []))
 unfolding read six_sections section records off bind parameters after-parameters
-rows_counted = (refl, refused_back (after-parameters (0 ∷ (2 ^ 64 - 1) ∷ [])) 20 refl)
+rows_counted = (refl, (refused_back (after-parameters (0 ∷ (2 ^ 64 - 1) ∷ [])) 20 refl).0)
 
 tables-counted : Turns_down (after-parameters (0 ∷ 0 ∷ 0 ∷ 0 ∷ (2 ^ 64 - 1) ∷ []))
 unfolding read six_sections section records off bind parameters after-parameters
-tables-counted = (refl, refused_back (after-parameters (0 ∷ 0 ∷ 0 ∷ 0 ∷ (2 ^ 64 - 1) ∷ [])) 20 refl)
+tables-counted = (refl, (refused_back (after-parameters (0 ∷ 0 ∷ 0 ∷ 0 ∷ (2 ^ 64 - 1) ∷ [])) 20 refl).0)

@@ -2,7 +2,7 @@
 --
 -- Main statements: `end_step`, `end-from`, `end_past`, `end-fixed` (n records end, one more); `found`, `missing`, `section_known`, `section_missing` (the two answers of a section);
 -- `wrong_count`, `late-..` and `found_whole` (the whole test, from the first section that is missing); `product-leb` (a product against a bound, by a division).
-use Rattle.std.specs.Prelude.{◌≡◌, ◌≢◌, List, length, get_or, leb}
+use Rattle.std.specs.Prelude.{◌≡◌, ◌≢◌, List, length, get_or, leb, Some, None, Ok, Err}
 use Rattle.std.proofs.Math.Path.{refl}
 use Rattle.std.proofs.Common.{sym, ap, ◌∙◌, le-div_iff_mul-le, div-lt_iff_lt-mul, mul_comm, zero-mul, suc-mul}
 use Prim.Native.Nat.{ℕ, zero, suc, ◌+◌, ◌-◌, ◌*◌, ◌/◌, ◌≤◌, ◌<◌}
@@ -12,11 +12,10 @@ use borrow.Author.Tests.{le-leb, lt-leb, eq-eqb, ne_eqb}
 use Rattle.selector.specs.Gates.{gate_words}
 use Rattle.pieces.specs.Records.{row_size, table_size}
 use Rattle.parameters.specs.Parameters.{parameter_words}
+use Rattle.refusal.specs.declared.Refusal.TheVariants.{Listing}
 use Rattle.listing.specs.Ends.{end_of, long_at, fixed_end, records_end, part, sections_at, judged, listing_from}
 use Rattle.listing.specs.Places.{section_of}
 use Rattle.listing.specs.declared.sections.Part.{Part}
-use Rattle.listing.specs.declared.sections.Section.TheVariants.{Found, Missing}
-use Rattle.listing.specs.declared.sections.Listing.TheVariants.{Whole, Refused}
 
 -- ---- n records
 module _ (size : ℕ → ℕ) where
@@ -72,12 +71,12 @@ product-leb a b room h = go (dec_le (a * b) room)
 
 -- ---- one section
 module _ (words at e : ℕ) where
-  pub found : (start len : ℕ) → start ≡ at + 1 → start + len ≡ e → e ≤ words → Found (record { start = start; len = len }) ≡ section_of words at e
+  pub found : (start len : ℕ) → start ≡ at + 1 → start + len ≡ e → e ≤ words → Some (record { start = start; len = len }) ≡ section_of words at e
   found start len p q h =
       let k : e - (at + 1) ≡ len = omega arith in
       rw (le-leb e words h, k, p)
 
-  pub missing : words < e → Missing ≡ section_of words at e
+  pub missing : words < e → None ≡ section_of words at e
   missing h = simp (lt-leb _ _ h)
 
 -- what an answer of a section says, the section ending past its count
@@ -87,26 +86,26 @@ pub record Known (words at e : ℕ) (p : Part) : Type 0 where
   pub end : p.start + p.len ≡ e
   pub within : e ≤ words
 
-pub section_known : (words at e : ℕ) (p : Part) → at < e → Found p ≡ section_of words at e → Known words at e p
+pub section_known : (words at e : ℕ) (p : Part) → at < e → Some p ≡ section_of words at e → Known words at e p
 section_known words at e p past f = go (dec_le e words)
   where
     go : Dec (e ≤ words) → Known words at e p
     go (yes h) =
-        let q : Found p ≡ Found (part at e) = f ∙ rw (le-leb e words h) in
+        let q : Some p ≡ Some (part at e) = f ∙ rw (le-leb e words h) in
         let i : p ≡ part at e = cc in
         let k : p.start + p.len ≡ e = ap (λ (x : Part). x.start + x.len) i ∙ omega arith in
         record { is = i ∙ ap (part at) (sym k); begin = ap (λ (x : Part). x.start) i; end = k; within = h }
     go (no h) =
-        let q : Found p ≡ Missing = f ∙ sym (missing words at e (omega arith)) in
+        let q : Some p ≡ None = f ∙ sym (missing words at e (omega arith)) in
         let z : ◌≡◌ {A = ℕ} 0 1 = cc in
         absurd (omega arith)
 
-pub section_missing : (words at e : ℕ) → Missing ≡ section_of words at e → words < e
+pub section_missing : (words at e : ℕ) → None ≡ section_of words at e → words < e
 section_missing words at e f = go (dec_le e words)
   where
     go : Dec (e ≤ words) → words < e
     go (yes h) =
-        let q : Missing ≡ Found (part at e) = f ∙ rw (le-leb e words h) in
+        let q : None ≡ Some (part at e) = f ∙ rw (le-leb e words h) in
         let z : ◌≡◌ {A = ℕ} 0 1 = cc in
         absurd (omega arith)
     go (no h) = omega arith
@@ -127,10 +126,10 @@ module _ (size : ℕ → ℕ → ℕ) (xs : List ℕ) (at : ℕ) where
     going_next h k = record { from = omega (arith, l.from); within = k; same = l.same ∙ end_step (long_at size xs) left i h }
 
     -- a record that does not fit ends past the words, and so do all
-    pub going_gone : 0 < left → length xs < i + long_at size xs i → Missing ≡ section_of (length xs) at (records_end size xs at)
+    pub going_gone : 0 < left → length xs < i + long_at size xs i → None ≡ section_of (length xs) at (records_end size xs at)
     going_gone h k = missing (length xs) at (records_end size xs at) (omega (arith, end_past (long_at size xs) left i h, l.same))
 
-    pub going_done : left ≡ 0 → Found (record { start = at + 1; len = i - (at + 1) }) ≡ section_of (length xs) at (records_end size xs at)
+    pub going_done : left ≡ 0 → Some (record { start = at + 1; len = i - (at + 1) }) ≡ section_of (length xs) at (records_end size xs at)
     going_done z =
         let q : records_end size xs at ≡ i = l.same ∙ ap (λ (n : ℕ). end_of (long_at size xs) n i) z ∙ end_none (long_at size xs) i in
         found (length xs) at (records_end size xs at) (at + 1) (i - (at + 1)) refl (omega (arith, l.from)) (omega (arith, l.within))
@@ -150,19 +149,19 @@ module _ (xs : List ℕ) (at g r s c t e : ℕ) where
   unfolding listing_from
   listing-judged h = rw (← h.parameters, ← h.gates, ← h.rows, ← h.s-words, ← h.cells, ← h.tables)
 
-  pub judged_count : g - (at + 1) ≢ parameter_words → judged xs at g r s c t e ≡ Refused 20
+  pub judged_count : g - (at + 1) ≢ parameter_words → judged xs at g r s c t e ≡ Err Listing
   unfolding judged
   judged_count h = simp (ne_eqb _ _ h)
 
-  pub judged_late : e ≢ length xs → judged xs at g r s c t e ≡ Refused 20
+  pub judged_late : e ≢ length xs → judged xs at g r s c t e ≡ Err Listing
   unfolding judged
   judged_late h = go (ℕ_discrete (g - (at + 1)) parameter_words)
     where
-      go : Dec (g - (at + 1) ≡ parameter_words) → judged xs at g r s c t e ≡ Refused 20
+      go : Dec (g - (at + 1) ≡ parameter_words) → judged xs at g r s c t e ≡ Err Listing
       go (yes p) = simp (eq-eqb _ _ p, ne_eqb _ _ h)
       go (no p) = simp (ne_eqb _ _ p)
 
-  pub judged_whole : g - (at + 1) ≡ parameter_words → e ≡ length xs → judged xs at g r s c t e ≡ Whole (sections_at at g r s c t e)
+  pub judged_whole : g - (at + 1) ≡ parameter_words → e ≡ length xs → judged xs at g r s c t e ≡ Ok (sections_at at g r s c t e)
   unfolding judged
   judged_whole p q = simp (eq-eqb _ _ p, eq-eqb _ _ q)
 
@@ -173,33 +172,36 @@ module _ (xs : List ℕ) (at : ℕ) where
   ends g r s c t hg hr hs hc ht = record { parameters = hg; gates = hr; rows = hs; s-words = hc; cells = ht; tables = refl }
 
   pub late_tables : (g r s c t : ℕ) → g ≡ fixed_end 1 xs at → r ≡ fixed_end gate_words xs g → s ≡ records_end row_size xs r → c ≡ fixed_end 1 xs s → t ≡ fixed_end 1 xs c
-      → records_end table_size xs t ≢ length xs → Refused 20 ≡ listing_from xs at
+      → records_end table_size xs t ≢ length xs → Err Listing ≡ listing_from xs at
   late_tables g r s c t hg hr hs hc ht h =
       sym (listing-judged xs at g r s c t _ (ends g r s c t hg hr hs hc ht) ∙ judged_late xs at g r s c t (records_end table_size xs t) h)
 
   pub late_cells : (g r s c : ℕ) → g ≡ fixed_end 1 xs at → r ≡ fixed_end gate_words xs g → s ≡ records_end row_size xs r → c ≡ fixed_end 1 xs s
-      → length xs < fixed_end 1 xs c → Refused 20 ≡ listing_from xs at
+      → length xs < fixed_end 1 xs c → Err Listing ≡ listing_from xs at
   late_cells g r s c hg hr hs hc h = late_tables g r s c (fixed_end 1 xs c) hg hr hs hc refl (λ z. omega (arith, records_past xs (fixed_end 1 xs c) table_size))
 
-  pub late_s : (g r s : ℕ) → g ≡ fixed_end 1 xs at → r ≡ fixed_end gate_words xs g → s ≡ records_end row_size xs r → length xs < fixed_end 1 xs s → Refused 20 ≡ listing_from xs at
+  pub late_s : (g r s : ℕ) → g ≡ fixed_end 1 xs at → r ≡ fixed_end gate_words xs g → s ≡ records_end row_size xs r → length xs < fixed_end 1 xs s → Err Listing ≡ listing_from xs at
   late_s g r s hg hr hs h = late_cells g r s (fixed_end 1 xs s) hg hr hs refl (omega (arith, fixed_past xs (fixed_end 1 xs s) 1))
 
-  pub late_rows : (g r : ℕ) → g ≡ fixed_end 1 xs at → r ≡ fixed_end gate_words xs g → length xs < records_end row_size xs r → Refused 20 ≡ listing_from xs at
+  pub late_rows : (g r : ℕ) → g ≡ fixed_end 1 xs at → r ≡ fixed_end gate_words xs g → length xs < records_end row_size xs r → Err Listing ≡ listing_from xs at
   late_rows g r hg hr h = late_s g r (records_end row_size xs r) hg hr refl (omega (arith, fixed_past xs (records_end row_size xs r) 1))
 
-  pub late_gates : (g : ℕ) → g ≡ fixed_end 1 xs at → length xs < fixed_end gate_words xs g → Refused 20 ≡ listing_from xs at
+  pub late_gates : (g : ℕ) → g ≡ fixed_end 1 xs at → length xs < fixed_end gate_words xs g → Err Listing ≡ listing_from xs at
   late_gates g hg h = late_rows g (fixed_end gate_words xs g) hg refl (omega (arith, records_past xs (fixed_end gate_words xs g) row_size))
 
-  pub late_parameters : length xs < fixed_end 1 xs at → Refused 20 ≡ listing_from xs at
+  pub late_parameters : length xs < fixed_end 1 xs at → Err Listing ≡ listing_from xs at
   late_parameters h = late_gates (fixed_end 1 xs at) refl (omega (arith, fixed_past xs (fixed_end 1 xs at) gate_words))
 
-  pub wrong_count : (g : ℕ) → g ≡ fixed_end 1 xs at → g - (at + 1) ≢ parameter_words → Refused 20 ≡ listing_from xs at
+  pub wrong_count : (g : ℕ) → g ≡ fixed_end 1 xs at → g - (at + 1) ≢ parameter_words → Err Listing ≡ listing_from xs at
   wrong_count g hg h = sym (listing-judged xs at g _ _ _ _ _ (ends g _ _ _ _ hg refl refl refl refl) ∙ judged_count xs at g _ _ _ _ _ h)
 
   -- the parts that the sections' answers hold are the six
   pub found_whole : (G R S C T E : ℕ) (p g r s c t : Part) → p ≡ part at G → g ≡ part G R → r ≡ part R S → s ≡ part S C → c ≡ part C T → t ≡ part T E
       → Ends xs at G R S C T E → G - (at + 1) ≡ parameter_words → E ≡ length xs
-      → Whole (record { parameters = p; gates = g; rows = r; s_words = s; cells = c; tables = t }) ≡ listing_from xs at
+      → Ok (record { parameters = p; gates = g; rows = r; s_words = s; cells = c; tables = t }) ≡ listing_from xs at
   found_whole G R S C T E p g r s c t ep eg er es ec et h k q =
-      let six : Whole (record { parameters = p; gates = g; rows = r; s_words = s; cells = c; tables = t }) ≡ Whole (sections_at at G R S C T E) = cc in
+      let six : Ok (record { parameters = p; gates = g; rows = r; s_words = s; cells = c; tables = t }) ≡ Ok (sections_at at G R S C T E) = cc in
       six ∙ sym (listing-judged xs at G R S C T E h ∙ judged_whole xs at G R S C T E k q)
+
+-- what a loop over the records of a section is proved by
+pub ruleset record_walk = (missing, records_past, going_begin, going_next, going_gone, going_done)

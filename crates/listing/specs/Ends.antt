@@ -5,15 +5,15 @@
 --
 -- All numbers are whole numbers, so nothing wraps. A word past the end counts as 0: each count and each record's head stands before the place where its section ends,
 -- so a listing with a word missing ends past its last word, and just the whole ones end where the words end.
-use Rattle.std.specs.Prelude.{List, ℕ, zero, suc, ◌+◌, ◌-◌, ◌*◌, length, get_or, eqb}
+use Rattle.std.specs.Prelude.{List, ℕ, zero, suc, ◌+◌, ◌-◌, ◌*◌, length, get_or, eqb, Result, Ok, Err}
 use Rattle.base.specs.Pick.{pick}
 use Rattle.selector.specs.Gates.{gate_words}
 use Rattle.pieces.specs.Records.{row_size, table_size}
 use Rattle.parameters.specs.Parameters.{parameter_words}
+use Rattle.refusal.specs.declared.Refusal.{Refusal}
+use Rattle.refusal.specs.declared.Refusal.TheVariants.{Listing}
 use Rattle.listing.specs.declared.sections.Part.{Part}
 use Rattle.listing.specs.declared.sections.Sections.{Sections}
-use Rattle.listing.specs.declared.sections.Listing.{Listing}
-use Rattle.listing.specs.declared.sections.Listing.TheVariants.{Whole, Refused}
 
 -- where n records end of which the first begins at a place, each as long as it says there
 unfoldable pub end_of : (ℕ → ℕ) → ℕ → ℕ → ℕ
@@ -48,12 +48,12 @@ sections_at at g r s c t e =
     }
 
 -- 20: the parameters are not eight, or the sections do not end where the words end
-unfoldable pub judged : List ℕ → ℕ → ℕ → ℕ → ℕ → ℕ → ℕ → ℕ → Listing
+unfoldable pub judged : List ℕ → ℕ → ℕ → ℕ → ℕ → ℕ → ℕ → ℕ → Result Sections Refusal
 judged xs at g r s c t e =
-    pick (eqb (g - (at + 1)) parameter_words) (pick (eqb e (length xs)) (Whole (sections_at at g r s c t e)) (Refused 20)) (Refused 20)
+    pick (eqb (g - (at + 1)) parameter_words) (pick (eqb e (length xs)) (Ok (sections_at at g r s c t e)) (Err Listing)) (Err Listing)
 
 -- the sections of a listing that begins at a place
-unfoldable pub listing_from : List ℕ → ℕ → Listing
+unfoldable pub listing_from : List ℕ → ℕ → Result Sections Refusal
 listing_from xs at =
     let g = fixed_end 1 xs at in
     let r = fixed_end gate_words xs g in

@@ -4,35 +4,22 @@ ghost use Rattle.std.specs.Prelude.{◌≡◌, take, drop};
 ghost use Rattle.listing.specs.Ends.{listing_from};
 ghost use Rattle.listing.specs.Cursor.{moved_to};
 
-use crate::sections::{Listing, sections_from};
+use crate::sections::{Sections, sections_from};
+use refusal::Refusal;
 
 // The place n words after another, or the end.
 fn moved_to(words: &[u64], at: usize, n: usize) -> usize
     ensures { result ≡ moved_to words.now at n }
 {
-    if words.len() <= at {
-        return words.len();
-    }
-    if n < words.len() - at {
-        at + n
-    } else {
-        words.len()
-    }
+    at.saturating_add(n).min(words.len())
 }
 
 // n words from a place on, or as many as there are.
 fn part_from(words: &[u64], at: usize, n: usize) -> &[u64]
     ensures { result.now ≡ take n (drop at words.now) }
 {
-    let all = words.len();
-    if all <= at {
-        return &words[all..];
-    }
-    if all - at <= n {
-        return &words[at..];
-    }
-    let end = at + n;
-    &words[at..end]
+    let rest = words.get(at..).unwrap_or(&[]);
+    rest.get(..n).unwrap_or(rest)
 }
 
 // The lent words and a place in them. The fields are open to all, so no function asks where it stands.
@@ -55,10 +42,7 @@ impl<'a> Cursor<'a> {
         ensures { (result.words ≡ self.entry.words) × (result.at ≡ moved_to self.entry.words.now self.entry.at n) }
     {
         let at = moved_to(self.words, self.at, n);
-        Cursor {
-            words: self.words,
-            at,
-        }
+        Cursor { at, ..self }
     }
 
     // The next n words, or as many as there are.
@@ -69,7 +53,7 @@ impl<'a> Cursor<'a> {
     }
 
     // The sections of the listing that begins at the cursor, or 20.
-    pub fn sections(self) -> Listing
+    pub fn sections(self) -> Result<Sections, Refusal>
         ensures { result ≡ listing_from self.entry.words.now self.entry.at }
     {
         sections_from(self.words, self.at)
@@ -77,7 +61,7 @@ impl<'a> Cursor<'a> {
 }
 
 // The sections of a listing, or 20.
-pub fn sections_of(words: &[u64]) -> Listing
+pub fn sections_of(words: &[u64]) -> Result<Sections, Refusal>
     ensures { result ≡ listing_from words.now 0 }
 {
     Cursor::new(words).sections()

@@ -1,11 +1,13 @@
 // The whole test of a listing: where each section's words stand, or 20. No number is made before it is known to be within
 // the words, so none wraps, whatever the counts say.
-ghost use Rattle.std.specs.Prelude.{◌≡◌, ◌*◌, length, leb};
+ghost use Rattle.std.specs.Prelude.{◌≡◌, length, ok_or};
 ghost use Rattle.pieces.specs.Records.{row_size, table_size};
+ghost use Rattle.refusal.specs.declared.Refusal.{Refusal};
 ghost use Rattle.listing.specs.Ends.{fixed_end, records_end, listing_from};
 ghost use Rattle.listing.specs.Places.{section_of};
 
 use parameters::parameters::PARAMETER_WORDS;
+use refusal::Refusal;
 use selector::GATE_WORDS;
 
 // A section's words: where they begin in the listing, after their count, and how many they are.
@@ -25,141 +27,103 @@ pub struct Sections {
     pub tables: Part,
 }
 
-#[derive(Clone, Copy)]
-pub enum Listing {
-    Whole(Sections),
-    Refused(u64),
-}
-
-// One section, if no word of it is missing.
-#[derive(Clone, Copy)]
-enum Section {
-    Found(Part),
-    Missing,
-}
-
 // Words of a gate.
 const GATE_SIZE: u64 = GATE_WORDS as u64;
 
-// Whether a times b is at most room. The product itself could wrap.
-fn product_within(a: u64, b: u64, room: u64) -> bool
-    ensures { result ≡ leb (a * b) room }
-{
-    if a == 0 {
-        return true;
-    }
-    b <= room / a
-}
-
 // The section whose count stands at a place, of records that are all as long: parameters, gates, S words, cell words.
-fn fixed_section(words: &[u64], at: usize, each: u64) -> Section
+#[tactic(auto, using(crate::specs::EndLaws::found, crate::specs::EndLaws::missing), unfolding(crate::specs::Ends::fixed_end))]
+fn fixed_section(words: &[u64], at: usize, each: u64) -> Option<Part>
     ensures { result ≡ section_of (length words.now) at (fixed_end each words.now at) }
 {
-    if words.len() <= at {
-        return Section::Missing;
-    }
+    let n = *words.get(at)?;
     let start = at + 1;
-    let n = words[at];
-    if product_within(n, each, (words.len() - start) as u64) {
-        return Section::Found(Part {
-            start: start,
-            len: (n * each) as usize,
-        });
+    let len = n.checked_mul(each)?;
+    if ((words.len() - start) as u64) < len {
+        return None;
     }
-    Section::Missing
+    Some(Part {
+        start,
+        len: len as usize,
+    })
 }
 
 // The rows whose count stands at a place. A row is two words, gate and number of constants, and the constants.
-fn rows_section(words: &[u64], at: usize) -> Section
+#[tactic(auto, using(crate::specs::EndLaws::record_walk))]
+fn rows_section(words: &[u64], at: usize) -> Option<Part>
     ensures { result ≡ section_of (length words.now) at (records_end row_size words.now at) }
 {
-    if words.len() <= at {
-        return Section::Missing;
-    }
+    let count = *words.get(at)?;
     let start = at + 1;
     let mut i = start;
-    let mut left = words[at];
-    while 0 < left {
+    for _row in 0..count {
         if words.len() - i < 2 {
-            return Section::Missing;
+            return None;
         }
         let n = words[i + 1] as usize;
         if words.len() - i - 2 < n {
-            return Section::Missing;
+            return None;
         }
-        i = i + (2 + n);
-        left = left - 1;
+        i += 2 + n;
     }
-    Section::Found(Part {
-        start: start,
+    Some(Part {
+        start,
         len: i - start,
     })
 }
 
 // The tables whose count stands at a place. A table is two words, width and rows, and the contents.
-fn tables_section(words: &[u64], at: usize) -> Section
+#[tactic(auto, using(crate::specs::EndLaws::record_walk))]
+fn tables_section(words: &[u64], at: usize) -> Option<Part>
     ensures { result ≡ section_of (length words.now) at (records_end table_size words.now at) }
 {
-    if words.len() <= at {
-        return Section::Missing;
-    }
+    let count = *words.get(at)?;
     let start = at + 1;
     let mut i = start;
-    let mut left = words[at];
-    while 0 < left {
+    for _table in 0..count {
         if words.len() - i < 2 {
-            return Section::Missing;
+            return None;
         }
-        let w = words[i];
-        let n = words[i + 1];
-        if product_within(w, n, (words.len() - i - 2) as u64) {
-            i = i + (2 + (w * n) as usize);
-            left = left - 1;
-        } else {
-            return Section::Missing;
+        let n = words[i].checked_mul(words[i + 1])?;
+        if ((words.len() - i - 2) as u64) < n {
+            return None;
         }
+        i += 2 + n as usize;
     }
-    Section::Found(Part {
-        start: start,
+    Some(Part {
+        start,
         len: i - start,
     })
 }
 
-// The sections of a listing that begins at a place, or 20: the parameters are not eight, a word is missing, or one is left over.
-pub(crate) fn sections_from(words: &[u64], at: usize) -> Listing
+// The sections of a listing that begins at a place. None where the parameters are not eight, a word is missing, or one is left over.
+fn whole_sections(words: &[u64], at: usize) -> Option<Sections>
+    ensures { ok_or result Refusal.Listing ≡ listing_from words.now at }
+{
+    let parameters = fixed_section(words, at, 1)?;
+    if parameters.len != PARAMETER_WORDS {
+        return None;
+    }
+    let gates = fixed_section(words, parameters.start + parameters.len, GATE_SIZE)?;
+    let rows = rows_section(words, gates.start + gates.len)?;
+    let s_words = fixed_section(words, rows.start + rows.len, 1)?;
+    let cells = fixed_section(words, s_words.start + s_words.len, 1)?;
+    let tables = tables_section(words, cells.start + cells.len)?;
+    if tables.start + tables.len != words.len() {
+        return None;
+    }
+    Some(Sections {
+        parameters,
+        gates,
+        rows,
+        s_words,
+        cells,
+        tables,
+    })
+}
+
+// The same with the refusal of what is no whole listing.
+pub(crate) fn sections_from(words: &[u64], at: usize) -> Result<Sections, Refusal>
     ensures { result ≡ listing_from words.now at }
 {
-    let Section::Found(parameters) = fixed_section(words, at, 1) else {
-        return Listing::Refused(20);
-    };
-    if parameters.len != PARAMETER_WORDS {
-        return Listing::Refused(20);
-    }
-    let Section::Found(gates) = fixed_section(words, parameters.start + parameters.len, GATE_SIZE)
-    else {
-        return Listing::Refused(20);
-    };
-    let Section::Found(rows) = rows_section(words, gates.start + gates.len) else {
-        return Listing::Refused(20);
-    };
-    let Section::Found(s_words) = fixed_section(words, rows.start + rows.len, 1) else {
-        return Listing::Refused(20);
-    };
-    let Section::Found(cells) = fixed_section(words, s_words.start + s_words.len, 1) else {
-        return Listing::Refused(20);
-    };
-    let Section::Found(tables) = tables_section(words, cells.start + cells.len) else {
-        return Listing::Refused(20);
-    };
-    if tables.start + tables.len != words.len() {
-        return Listing::Refused(20);
-    }
-    Listing::Whole(Sections {
-        parameters: parameters,
-        gates: gates,
-        rows: rows,
-        s_words: s_words,
-        cells: cells,
-        tables: tables,
-    })
+    whole_sections(words, at).ok_or(Refusal::Listing)
 }

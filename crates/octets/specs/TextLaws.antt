@@ -1,11 +1,13 @@
 -- Text put piece by piece is text put whole, and a word's digits are the fewest that hold it.
 --
--- Main statements: `put-append`, `put_turn`, `put_full`, `put_all` (where the buffer is long enough, it begins with the text), `fields_turn`, `put_counts`, `fewest_decimal`.
-use Rattle.std.specs.Prelude.{◌≡◌, refl, List, [], ◌∷◌, ◌++◌, ℕ, zero, suc, ◌+◌, ◌-◌, ◌*◌, ◌/◌, ◌^◌, ◌≤◌, ◌<◌, length, get_or, set, drop, ltb}
-use Rattle.std.proofs.Common.{sym, ap, ◌∙◌, subst, add-zero, pow-suc, div-lt_iff_lt-mul, le-div_iff_mul-le, arith, length-set, drop_of_length-le, drop-cons, length-take-le, lt-ltb, le-ltb}
+-- Main statements: `put-append`, `put_turn`, `put_full`, `put_part` (what fits is put), `put_all` (where the buffer is long enough, it begins with the text), `fields_turn`, `put_counts`, `fewest_decimal`.
+use Rattle.std.specs.Prelude.{◌≡◌, refl, List, [], ◌∷◌, ◌++◌, ℕ, zero, suc, ◌+◌, ◌-◌, ◌*◌, ◌/◌, ◌^◌, ◌≤◌, ◌<◌, length, get_or, set, take, drop, min, ltb}
+use Rattle.std.proofs.Common.{sym, ap, ◌∙◌, subst, add-zero, pow-suc, div-lt_iff_lt-mul, le-div_iff_mul-le, arith, append_assoc, length-set, drop_of_length-le, drop-cons, length-take-le, lt-ltb, le-ltb}
 use Rattle.std.proofs.Math.Decide.{dec_lt}
 use Rattle.std.proofs.Math.Nat.{pow-le-pow_right}
-use Rattle.std.proofs.lemmas.List.Edits.{sets, sets-eq}
+use Rattle.std.proofs.Math.Seq.{paste, length-sets}
+use Rattle.std.proofs.lemmas.List.{take-append-drop}
+use Rattle.std.proofs.lemmas.List.Edits.{sets, sets-eq, paste_all}
 use Rattle.io.specs.Counts.{IsPrefixLen}
 use Rattle.io.specs.Digits.{last_digits, IsDigitCount}
 use Rattle.base.specs.Pick.{pick, pick_yes}
@@ -75,6 +77,26 @@ put_all out text h =
     let l : 0 + length text ≤ length out = omega arith in
     let e : 0 + length text ≡ length text = omega arith in
     put_sets out 0 text l ∙ ap (sink (sets out 0 text)) e ∙ ap (λ (b : List ℕ). sink b (length text)) (sets-eq text out 0 l ∙ ap (λ (k : ℕ). text ++ drop k out) e)
+
+-- as many bytes as there is room for are put, and the others dropped
+pub put_part : (out : List ℕ) (at : ℕ) (text : List ℕ) (n : ℕ) → at ≤ length out → n ≡ min (length text) (length out - at)
+    → put (sink out at) text ≡ sink (paste out at (take n text) n) (at + n)
+put_part out at text n h e =
+    ap (put (sink out at)) (sym (take-append-drop n text))
+    ∙ put-append (sink out at) (take n text) (drop n text)
+    ∙ ap (λ (s : Sink). put s (drop n text)) (put_sets out at (take n text) (omega (arith, l)))
+    ∙ rest (dec_lt n (length text))
+    ∙ rw (l, sets-eq (take n text) out at (omega (arith, l)), l, paste_all out at (take n text) n (sym l), append_assoc)
+  where
+    l : length (take n text) ≡ n
+    l = length-take-le n text (omega arith)
+
+    there : Sink
+    there = sink (sets out at (take n text)) (at + length (take n text))
+
+    rest : Dec (n < length text) → put there (drop n text) ≡ there
+    rest (yes q) = put_full (sets out at (take n text)) (at + length (take n text)) (drop n text) (omega (arith, l, length-sets out at (take n text)))
+    rest (no q) = put_done there text n (omega arith)
 
 pub fields_turn : (s : Sink) (ns : List ℕ) (i : ℕ) → i < length ns → put s (fields (drop i ns)) ≡ put (put s (field (get_or ns i 0))) (fields (drop (i + 1) ns))
 unfolding fields

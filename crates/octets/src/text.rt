@@ -6,17 +6,12 @@ ghost use Rattle.octets.specs.Text.{sink, put, decimal, field, fields};
 pub fn put_bytes(text: &[u8], at: usize, out: &mut [u8]) -> usize
     ensures { sink out.new result ≡ put (sink out.old at) text.now }
 {
-    let mut place = at;
-    let mut i = 0;
-    while i < text.len() {
-        if out.len() <= place {
-            return place;
-        }
-        out[place] = text[i];
-        place = place + 1;
-        i = i + 1;
+    if out.len() <= at {
+        return at;
     }
-    place
+    let fit = text.len().min(out.len() - at);
+    out[at..at + fit].copy_from_slice(&text[..fit]);
+    at + fit
 }
 
 // A number in base ten.
@@ -40,10 +35,8 @@ pub fn put_fields(numbers: &[u64], at: usize, out: &mut [u8]) -> usize
     ensures { sink out.new result ≡ put (sink out.old at) (fields numbers.now) }
 {
     let mut place = at;
-    let mut i = 0;
-    while i < numbers.len() {
-        place = put_field(numbers[i], place, out);
-        i = i + 1;
+    for number in numbers {
+        place = put_field(*number, place, out);
     }
     place
 }

@@ -9,15 +9,12 @@ ghost use Rattle.replay.specs.Replay.{started, stepped, compared, noted};
 use octets::words::word_at;
 
 // No recording and no run comes near it: a count stays there.
-const LIMIT: u64 = 1000000000;
+const LIMIT: u64 = 1_000_000_000;
 
 fn up(x: u64) -> u64
     ensures { result ≡ Rattle.replay.specs.Replay.up x }
 {
-    if x < LIMIT {
-        return x + 1;
-    }
-    x
+    if x < LIMIT { x + 1 } else { x }
 }
 
 // A place among the words, and what has been compared.
@@ -43,8 +40,7 @@ impl Replay {
     pub fn word(self, bytes: &[u8]) -> u64
         ensures { result ≡ word_at bytes.now self.at }
     {
-        let at = self.at as usize;
-        word_at(bytes, at)
+        word_at(bytes, self.at as usize)
     }
 
     // Past the next word.
@@ -60,10 +56,9 @@ impl Replay {
         ensures { result ≡ noted self same }
     {
         self.compared = up(self.compared);
-        if same {
-            return self;
+        if !same {
+            self.differences = up(self.differences);
         }
-        self.differences = up(self.differences);
         self
     }
 

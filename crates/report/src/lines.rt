@@ -26,9 +26,10 @@ fn put_digit(step: u64, at: usize, out: &mut [u8]) -> usize
     ensures { sink out.new result ≡ put (sink out.old at) (digit step) }
 {
     if step == 1 {
-        return put_bytes(b"1", at, out);
+        put_bytes(b"1", at, out)
+    } else {
+        put_bytes(b"0", at, out)
     }
-    put_bytes(b"0", at, out)
 }
 
 // The steps of a path, the one from the root first.
@@ -37,11 +38,9 @@ fn put_digits(bits: u64, steps: u64, at: usize, out: &mut [u8]) -> usize
 {
     let mut rest = bits;
     let mut place = at;
-    let mut i: u64 = 0;
-    while i < steps {
+    for _step in 0..steps {
         place = put_digit(rest % 2, place, out);
-        rest = rest / 2;
-        i = i + 1;
+        rest /= 2;
     }
     place
 }
@@ -87,10 +86,8 @@ pub(crate) fn put_paths(plan: Plan, at: usize, out: &mut [u8]) -> usize
     ensures { sink out.new result ≡ put (sink out.old at) (path_lines (plan_selector plan) 0 plan.gate_count) }
 {
     let mut place = at;
-    let mut gate: u64 = 0;
-    while gate < plan.gate_count {
+    for gate in 0..plan.gate_count {
         place = put_path(plan, gate, place, out);
-        gate = gate + 1;
     }
     place
 }
@@ -118,13 +115,9 @@ pub(crate) fn put_columns(
     ensures { sink out.new result ≡ put (sink out.old at) (column_lines name.now trace words.now 0 many) }
 {
     let mut place = at;
-    let mut from = 0;
-    let mut i = 0;
-    while i < many {
-        let end = from + trace;
-        place = put_column(name, i as u64, &words[from..end], place, out);
-        from = end;
-        i = i + 1;
+    for i in 0..many {
+        let column = &words[i * trace..][..trace];
+        place = put_column(name, i as u64, column, place, out);
     }
     place
 }

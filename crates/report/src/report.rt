@@ -26,9 +26,10 @@ fn table_columns(plan: Plan) -> u64
 {
     let lookup = plan.lookup;
     if 0 < lookup.mode() {
-        return lookup.lookup_width() + 1;
+        lookup.lookup_width() + 1
+    } else {
+        0
     }
-    0
 }
 
 // Whether the columns of a plan are all there.
@@ -36,13 +37,9 @@ fn columns_there(plan: Plan, constants: &[u64], copies: &[u64], tables: &[u64]) 
     requires { plan_fault plan ≡ 0 }
     ensures { result ≡ columns_there (setting_of plan) constants.now copies.now tables.now }
 {
-    if constants.len() < ((plan.constants + plan.specialised) * plan.trace) as usize {
-        return false;
-    }
-    if copies.len() < (plan.copy * plan.trace) as usize {
-        return false;
-    }
-    (table_columns(plan) * plan.trace) as usize <= tables.len()
+    ((plan.constants + plan.specialised) * plan.trace) as usize <= constants.len()
+        && (plan.copy * plan.trace) as usize <= copies.len()
+        && (table_columns(plan) * plan.trace) as usize <= tables.len()
 }
 
 fn put_lines(plan: Plan, constants: &[u64], copies: &[u64], tables: &[u64], out: &mut [u8]) -> usize

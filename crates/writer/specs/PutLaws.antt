@@ -6,9 +6,11 @@ use Rattle.std.proofs.Common.{le-leb, length-append, drop-drop, ◌∙◌, sym, 
 use Rattle.std.proofs.lemmas.Bool.{lt-leb}
 use Rattle.std.proofs.Math.ListN.{take}
 use Rattle.std.proofs.Math.Seq.{drop-paste, paste-zero, take-length, take-paste}
+use Rattle.std.proofs.lemmas.List.{length-replicate}
 use Rattle.std.proofs.lemmas.List.Edits.{length-paste}
 use mathlib.Core.List.{List, [], ◌++◌, append_assoc}
 use Rattle.std.proofs.Math.Path.{ap}
+use Rattle.std.proofs.lemmas.Slice.{put_mid-paste}
 use Rattle.base.specs.Pick.{pick_no, pick_yes}
 use Rattle.writer.specs.Put.{put, put_if}
 
@@ -66,3 +68,6 @@ put-nothing at old = paste-zero old at []
 
 pub put_front : (new old : List ℕ) → put 0 new old ≡ new ++ drop (length new) old
 put_front new old = put_is 0 new old ∙ ap (λ (n : ℕ). new ++ drop n old) (zero-add (length new))
+
+-- what a call that puts a part where it fits is proved by
+pub ruleset whole_part = (put_fits, put_short, put_mid-paste, length-replicate)

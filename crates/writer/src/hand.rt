@@ -1,8 +1,10 @@
 // Words handed out at the front of a lent buffer; one that is too short keeps all its words.
 ghost use Rattle.std.specs.Prelude.{◌≡◌};
+ghost use Rattle.refusal.specs.Refusal.{answer_number};
 ghost use Rattle.writer.specs.Hand.{hand_left, hand_number, handed};
 
 use crate::put::put_words;
+use refusal::{Refusal, answer_number};
 
 // What a call that writes a listing answers: 0 or a refusal number, and how many words were written,
 // none after a refusal.
@@ -19,6 +21,19 @@ pub fn hand(words: &[u64], out: &mut [u64])
     put_words(words, 0, out);
 }
 
+// Words go to the front of a result slice, or 10.
+#[tactic(auto, using(crate::proofs::HandLaws::hand_short, crate::proofs::HandLaws::hand_given, crate::proofs::HandLaws::handed_short), unfolding(crate::specs::Hand::hand_left))]
+pub fn hand_out(words: &[u64], out: &mut [u64]) -> Result<(), Refusal>
+    ensures value { answer_number result ≡ hand_number 0 words.now out.old }
+    ensures out_after { out.new ≡ hand_left 0 words.now out.old }
+{
+    if out.len() < words.len() {
+        return Err(Refusal::ShortBuffer);
+    }
+    hand(words, out);
+    Ok(())
+}
+
 // Words go to the front of a result slice unless the call is refused. Its number, then 10.
 pub fn hand_unless(number: u64, words: &[u64], out: &mut [u64]) -> u64
     ensures value { result ≡ hand_number number words.now out.old }
@@ -27,9 +42,5 @@ pub fn hand_unless(number: u64, words: &[u64], out: &mut [u64]) -> u64
     if number != 0 {
         return number;
     }
-    if out.len() < words.len() {
-        return 10;
-    }
-    hand(words, out);
-    0
+    answer_number(hand_out(words, out))
 }

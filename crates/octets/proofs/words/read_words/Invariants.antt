@@ -1,11 +1,7 @@
 -- `octets::words::read_words` meets its contract. The words passed are those of the bytes, the others as they were.
-use Rattle.std.proofs.Common.{◌-◌, ◌/◌, ◌≤◌, length}
 use Rattle.base.specs.Fills.{Filled}
 use Rattle.octets.specs.Words.{word_at}
 use Rattle.octets.proofs.words.read_words.Given as goal
 
 abbrev pub invariant-loop-i : goal.invariant-loop-i
-invariant-loop-i l = (l.i ≤ length l.initial.words) × (l.i ≤ length l.bytes / 8) × Filled (word_at l.bytes) 0 l.i l.initial.words l.words
-
-abbrev pub decreases-loop-i : goal.decreases-loop-i
-decreases-loop-i l = length l.initial.words - l.i
+invariant-loop-i l = Filled (word_at l.bytes) 0 l.i l.initial.word-items l.word-items

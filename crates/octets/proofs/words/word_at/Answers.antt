@@ -1,22 +1,9 @@
--- `octets::words::word_at` meets its contract: the bytes are those of the definition, and each is below 256.
-use Rattle.std.proofs.Common.{le-leb, arith}
-use Rattle.std.proofs.lemmas.Bool.{lt-leb}
+-- `octets::words::word_at` meets its contract: the eight bytes of a chunk are those of the definition.
+use Rattle.std.proofs.Common.{◌∙◌, arith}
+use Rattle.octets.proofs.Chunks.{chunk_word}
 use Rattle.octets.proofs.words.word_at.Goals as goal
 
-pub returns-then-bytes-index : goal.returns-then-bytes-index
-returns-then-bytes-index c = simp (le-leb _ _ c.if-bytes-index.true)
-
-pub returns : goal.returns
-returns c =
-    simp (lt-leb _ _ c.if-bytes-index.false)
-    (omega (
-      arith,
-      c.byte_at.ensures.0,
-      c.byte_at-2.ensures.0,
-      c.byte_at-3.ensures.0,
-      c.byte_at-4.ensures.0,
-      c.byte_at-5.ensures.0,
-      c.byte_at-6.ensures.0,
-      c.byte_at-7.ensures.0,
-      c.byte_at-8.ensures.0,
-    ))
+pub returns-in-Some : goal.returns-in-Some
+returns-in-Some c =
+    let l = c.in-Some.ensures.lookup in
+    c.from_le_bytes.ensures ∙ chunk_word c.args.bytes.now c.args.index c.in-Some.word.now (omega (arith, l.3.0, c.as_chunks.ensures.front_len)) (rw c.as_chunks.ensures.front at l.1)

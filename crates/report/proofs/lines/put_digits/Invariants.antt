@@ -5,8 +5,5 @@ use Rattle.base.specs.Digits.{digits, Spelled}
 use Rattle.report.specs.Report.{digits_of}
 use Rattle.report.proofs.lines.put_digits.Given as goal
 
-abbrev pub invariant-loop-i : goal.invariant-loop-i
-invariant-loop-i l = (length l.out ≡ length l.initial.out) × ((path : List ℕ) → Spelled path l.bits l.steps → (digits (l.steps - l.i) l.rest ≡ drop l.i path) × (put (sink l.initial.out l.at) (digits_of path) ≡ put (sink l.out l.place) (digits_of (drop l.i path))))
-
-abbrev pub decreases-loop-i : goal.decreases-loop-i
-decreases-loop-i l = l.steps - l.i
+abbrev pub invariant-loop-step : goal.invariant-loop-step
+invariant-loop-step l = (length l.out ≡ length l.initial.out) × ((path : List ℕ) → Spelled path l.bits l.steps → (digits (l.steps - l._step) l.rest ≡ drop l._step path) × (put (sink l.initial.out l.at) (digits_of path) ≡ put (sink l.out l.place) (digits_of (drop l._step path))))

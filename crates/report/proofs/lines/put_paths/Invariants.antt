@@ -7,6 +7,3 @@ use Rattle.report.proofs.lines.put_paths.Given as goal
 
 abbrev pub invariant-loop-gate : goal.invariant-loop-gate
 invariant-loop-gate l = (length l.out ≡ length l.initial.out) × (put (sink l.initial.out l.at) (path_lines (plan_selector l.plan) 0 l.plan.gate_count) ≡ put (sink l.out l.place) (path_lines (plan_selector l.plan) l.gate (l.plan.gate_count - l.gate)))
-
-abbrev pub decreases-loop-gate : goal.decreases-loop-gate
-decreases-loop-gate l = l.plan.gate_count - l.gate

@@ -15,5 +15,5 @@ overflow_add-result c = omega (arith, (fine c.before.before.before).width, c.loo
 pub returns-then-mode-gt0 : goal.returns-then-mode-gt0
 returns-then-mode-gt0 c = rw (lt-ltb 0 (mode_of c.args.plan.lookup) (omega (arith, c.mode.ensures, c.if-mode-gt0.true))) (ap (λ (w : ℕ). w + 1) c.lookup_width.ensures)
 
-pub returns : goal.returns
-returns c = rw (le-ltb 0 (mode_of c.args.plan.lookup) (omega (arith, c.mode.ensures, c.if-mode-gt0.false)))
+pub returns-else-mode-gt0 : goal.returns-else-mode-gt0
+returns-else-mode-gt0 c = rw (le-ltb 0 (mode_of c.args.plan.lookup) (omega (arith, c.mode.ensures, c.if-mode-gt0.false)))
