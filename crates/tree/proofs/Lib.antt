@@ -1,4 +1,5 @@
 -- What the loops and the calls of the code need, by module of src/.
+pub mod TestLaws
 mod OrderLaws
 mod SearchLaws
 mod NodesLaws

@@ -22,7 +22,8 @@ use Rattle.selector.specs.Paths.{bits_of, path_to, turned}
 use Rattle.base.specs.Limits.{most_gates}
 use Rattle.selector.specs.Tree.{Tree, fork, leaf}
 use Rattle.tree.specs.Placements.{PathWords, path_words, placed, spelled}
-use Rattle.tree.specs.declared.paths.Placement.{Placement}
+use Rattle.tree.specs.declared.paths.Path.{Path}
+use Rattle.std.specs.Prelude.{Some, None}
 use borrow.Fn.PlainCycle.{is}
 
 pub pow_room : (f : ℕ) → f ≤ most_levels → 2 ^ f ≤ 2 ^ most_levels
@@ -38,7 +39,7 @@ pow_step (suc f) h = let e : suc f - 1 ≡ f = omega arith in rw e (omega arith)
 pub pow-next : (w d : ℕ) → w ≡ 2 ^ d → w * 2 ≡ 2 ^ (d + 1)
 pow-next w d e = rw add-one (omega arith)
 
-leaf_spelled : (b : Bool) → spelled (pick b (some []) none) ≡ record { found = b; bits = 0; length = 0 }
+leaf_spelled : (b : Bool) → pick b (Some (record { bits = 0; length = 0 })) None ≡ spelled (pick b (some []) none)
 unfolding bits_of
 leaf_spelled true = refl
 leaf_spelled false = refl
@@ -52,11 +53,11 @@ module _ (ns : List ℕ) (i : ℕ) where
   leaf_tree f t h e q = cc (at_leaf ns i f h e)
 
   pub seek_leaf : (g f : ℕ) (t : Tree) → 0 < f → left_at ns i ≡ 0 → tree_at f ns i ≡ some t
-      → record { found = eqb g (gate_at ns i); bits = 0; length = 0 } ≡ spelled (path_to g t)
+      → pick (eqb g (gate_at ns i)) (Some (record { bits = 0; length = 0 })) None ≡ spelled (path_to g t)
   unfolding path_to
   seek_leaf g f t h e q =
-      subst (λ (u : Tree). record { found = eqb g (gate_at ns i); bits = 0; length = 0 } ≡ spelled (path_to g u)) (leaf_tree f t h e q)
-      (sym (leaf_spelled (eqb g (gate_at ns i))))
+      subst (λ (u : Tree). pick (eqb g (gate_at ns i)) (Some (record { bits = 0; length = 0 })) None ≡ spelled (path_to g u)) (leaf_tree f t h e q)
+      (leaf_spelled (eqb g (gate_at ns i)))
 
   -- the sides of a fork's tree
   pub record Halves (f : ℕ) (t : Tree) : Type 0 where
@@ -75,38 +76,42 @@ module _ (ns : List ℕ) (i : ℕ) where
   halves f t h e q = halves_by f t (tree_at (f - 1) ns (left_at ns i)) (tree_at (f - 1) ns (right_at ns i)) refl refl (sym (at_fork ns i f h e) ∙ q)
 
 -- a fork's path from its sides' paths
-left_by : (q s : Option (List ℕ)) (a : Placement) → a ≡ spelled q → a.found ≡ true
-    → record { found = true; bits = a.bits * 2 + 1; length = a.length + 1 } ≡ spelled (turned 1 q s)
+left_by : (q s : Option (List ℕ)) (a : Path) → Some a ≡ spelled q → Some (record { bits = a.bits * 2 + 1; length = a.length + 1 }) ≡ spelled (turned 1 q s)
 unfolding bits_of
-left_by (some p) s a e f = let n : length p + 1 ≡ suc (length p) = omega arith in rw (e, n) refl
-left_by none s a e f = let z : ◌≡◌ {A = ℕ} 0 1 = cc in absurd (omega arith)
+left_by (some p) s a e =
+    let is : a ≡ record { bits = bits_of p; length = length p } = cc in
+    let n : length p + 1 ≡ suc (length p) = omega arith in
+    rw (is, n) refl
+left_by none s a e = absurd cc
 
-right_by : (q s : Option (List ℕ)) (a b : Placement) → a ≡ spelled q → a.found ≡ false → b ≡ spelled s → b.found ≡ true
-    → record { found = true; bits = b.bits * 2; length = b.length + 1 } ≡ spelled (turned 1 q (turned 0 s none))
+right_by : (q s : Option (List ℕ)) → None ≡ spelled q → (b : Path) → Some b ≡ spelled s
+    → Some (record { bits = b.bits * 2; length = b.length + 1 }) ≡ spelled (turned 1 q (turned 0 s none))
 unfolding bits_of
-right_by (some p) s a b e f h k = let z : ◌≡◌ {A = ℕ} 0 1 = cc in absurd (omega arith)
-right_by none (some p) a b e f h k = let q : bits_of p * 2 ≡ bits_of p * 2 + 0 = omega arith in rw (h, add-one, ← q) refl
-right_by none none a b e f h k = let z : ◌≡◌ {A = ℕ} 0 1 = cc in absurd (omega arith)
+right_by (some p) s e b h = absurd cc
+right_by none (some p) e b h =
+    let is : b ≡ record { bits = bits_of p; length = length p } = cc in
+    let q : bits_of p * 2 ≡ bits_of p * 2 + 0 = omega arith in
+    rw (is, add-one, ← q) refl
+right_by none none e b h = absurd cc
 
-neither_by : (q s : Option (List ℕ)) (a b : Placement) → a ≡ spelled q → a.found ≡ false → b ≡ spelled s → b.found ≡ false
-    → b ≡ spelled (turned 1 q (turned 0 s none))
-neither_by (some p) s a b e f h k = let z : ◌≡◌ {A = ℕ} 0 1 = cc in absurd (omega arith)
-neither_by none (some p) a b e f h k = let z : ◌≡◌ {A = ℕ} 0 1 = cc in absurd (omega arith)
-neither_by none none a b e f h k = h
+neither_by : (q s : Option (List ℕ)) → None ≡ spelled q → None ≡ spelled s → None ≡ spelled (turned 1 q (turned 0 s none))
+neither_by (some p) s e h = absurd cc
+neither_by none (some p) e h = absurd cc
+neither_by none none e h = refl
 
 module _ (g : ℕ) (l r t : Tree) (is : fork l r ≡ t) where
-  pub seek_left : (a : Placement) → a ≡ spelled (path_to g l) → a.found ≡ true → record { found = true; bits = a.bits * 2 + 1; length = a.length + 1 } ≡ spelled (path_to g t)
+  pub seek_left : (a : Path) → Some a ≡ spelled (path_to g l) → Some (record { bits = a.bits * 2 + 1; length = a.length + 1 }) ≡ spelled (path_to g t)
   unfolding path_to
-  seek_left a e f = subst (λ (u : Tree). record { found = true; bits = a.bits * 2 + 1; length = a.length + 1 } ≡ spelled (path_to g u)) is (left_by (path_to g l) (turned 0 (path_to g r) none) a e f)
+  seek_left a e = subst (λ (u : Tree). Some (record { bits = a.bits * 2 + 1; length = a.length + 1 }) ≡ spelled (path_to g u)) is (left_by (path_to g l) (turned 0 (path_to g r) none) a e)
 
-  pub seek_right : (a b : Placement) → a ≡ spelled (path_to g l) → a.found ≡ false → b ≡ spelled (path_to g r) → b.found ≡ true
-      → record { found = true; bits = b.bits * 2; length = b.length + 1 } ≡ spelled (path_to g t)
+  pub seek_right : None ≡ spelled (path_to g l) → (b : Path) → Some b ≡ spelled (path_to g r)
+      → Some (record { bits = b.bits * 2; length = b.length + 1 }) ≡ spelled (path_to g t)
   unfolding path_to
-  seek_right a b e f h k = subst (λ (u : Tree). record { found = true; bits = b.bits * 2; length = b.length + 1 } ≡ spelled (path_to g u)) is (right_by (path_to g l) (path_to g r) a b e f h k)
+  seek_right e b h = subst (λ (u : Tree). Some (record { bits = b.bits * 2; length = b.length + 1 }) ≡ spelled (path_to g u)) is (right_by (path_to g l) (path_to g r) e b h)
 
-  pub seek_neither : (a b : Placement) → a ≡ spelled (path_to g l) → a.found ≡ false → b ≡ spelled (path_to g r) → b.found ≡ false → b ≡ spelled (path_to g t)
+  pub seek_neither : None ≡ spelled (path_to g l) → None ≡ spelled (path_to g r) → None ≡ spelled (path_to g t)
   unfolding path_to
-  seek_neither a b e f h k = subst (λ (u : Tree). b ≡ spelled (path_to g u)) is (neither_by (path_to g l) (path_to g r) a b e f h k)
+  seek_neither e h = subst (λ (u : Tree). None ≡ spelled (path_to g u)) is (neither_by (path_to g l) (path_to g r) e h)
 
 -- the walk of all paths at a node: a leaf whose gate has words, one whose gate has none, a fork
 module _ (ns : List ℕ) (i b w d : ℕ) (s : PathWords) (f : ℕ) (t : Tree) (h : 0 < f) (e : left_at ns i ≡ 0) (q : tree_at f ns i ≡ some t) where

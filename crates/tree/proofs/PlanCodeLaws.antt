@@ -26,49 +26,63 @@ use Rattle.selector.specs.Tree.{Tree}
 use Rattle.selector.specs.PathLaws.{unlisted_path}
 use Rattle.tree.proofs.PathsLaws.{Long, Read, placed-long, placed-read}
 use Rattle.tree.specs.Placements.{PathWords, path_words, placed, spelled}
-use Rattle.tree.specs.Plan.{for_listed, gates_given, path_answer, plan_barred, plan_blocked, plan_fault, plan_path, plan_selection, plan_selector, selector_among}
+use Rattle.tree.specs.Plan.{for_listed, gates_given, path_answer, plan_barred, plan_blocked, plan_fault, plan_path, plan_selection, plan_selector, table_id_answer}
 use Rattle.tree.specs.PlanLaws.{Faultless, fault_none}
-use Rattle.tree.specs.Selection.{selection_steps, selection_bits, selection_length, selection_number, selection_of}
-use Rattle.tree.specs.declared.paths.Placement.{Placement}
-use Rattle.tree.specs.declared.plan.PathAnswer.{PathAnswer}
+use Rattle.refusal.proofs.Passing.{refusal_nonzero}
+use Rattle.refusal.specs.Refusal.{refusal_number}
+use Rattle.refusal.specs.declared.Refusal.{Refusal}
+use Rattle.tree.proofs.TestLaws.{tests}
+use Rattle.tree.specs.Answers.{PathAnswer, selection_told}
+use Rattle.tree.specs.Selection.{Path, Selection, UnknownGate, selection_steps, selection_bits, selection_length, selection_number, selection_of}
+use Rattle.std.specs.Prelude.{Ok, Option as Optional, Result}
+use Rattle.std.specs.Result.{IsErrAnd}
+use Rattle.std.proofs.lemmas.Result.{err_from_is_err_and}
+use Rattle.tree.specs.declared.paths.Path.{Path as PathWord}
 use Rattle.tree.specs.declared.plan.Plan.{Plan}
-use Rattle.tree.specs.declared.selection.Selection.{Selection}
-use Rattle.tree.specs.declared.selection.Selection.TheVariants.{NoSelector, Path, UnknownGate}
 
--- a walk to a gate that found it, and one that did not
-found_by : (o : Option (List ℕ)) (r : Placement) → r ≡ spelled o → r.found ≡ true → Path r.bits r.length ≡ selection_of (selected o)
-found_by (some p) r e f = rw e refl
-found_by none r e f = let z : ◌≡◌ {A = ℕ} 0 1 = cc in absurd (omega arith)
+-- what is answered of a listed gate, by the walk to it
+abbrev pub told : Optional PathWord → Selection
+told o = selection_told (Ok o)
 
-lost_by : (o : Option (List ℕ)) (r : Placement) → r ≡ spelled o → r.found ≡ false → NoSelector ≡ selection_of (selected o)
-lost_by (some p) r e f = let z : ◌≡◌ {A = ℕ} 0 1 = cc in absurd (omega arith)
-lost_by none r e f = refl
+found_by : (q : Option (List ℕ)) → told (spelled q) ≡ selection_of (selected q)
+found_by (some p) = refl
+found_by none = refl
 
--- what is answered of a gate among `many`, by the tree at node 0: of one past them, and of one that the walk found or not
-module _ (many g : ℕ) (t : Tree) where
-  pub selection_past : many ≤ g → UnknownGate ≡ selection_of (selector_among many (some t) g)
-  selection_past h = rw (le-ltb g many h)
+-- the refusal of a made-up plan is 19
+fault_cases : (p : Plan) → plan_fault p ≢ 0 → plan_fault p ≡ 19
+unfolding plan_fault
+fault_cases p n = grind (arith, tests)
 
-  pub selection_found : (r : Placement) → g < many → r ≡ spelled (path_to g t) → r.found ≡ true → Path r.bits r.length ≡ selection_of (selector_among many (some t) g)
-  selection_found r h e f = rw (lt-ltb g many h) (found_by (path_to g t) r e f)
+pub made-up : (p : Plan) (r : Refusal) → refusal_number r ≡ plan_fault p → plan_fault p ≡ 19
+made-up p r e = fault_cases p (λ z. refusal_nonzero r (e ∙ z))
 
-  pub selection_lost : (r : Placement) → g < many → r ≡ spelled (path_to g t) → r.found ≡ false → NoSelector ≡ selection_of (selector_among many (some t) g)
-  selection_lost r h e f = rw (lt-ltb g many h) (lost_by (path_to g t) r e f)
+-- and a path of zeros is answered of it
+pub nothing_told : (x : Result (Optional PathWord) Refusal) (r : Refusal) → IsErrAnd x (λ d. d ≡ r) → refusal_number r ≡ 19 → selection_told x ≡ Path 0 0
+nothing_told x r h e = let k = err_from_is_err_and x h in rw (k.1, k.2, e) refl
 
--- the answer of a plan without a fault, whose nodes gave the selection
-pub path_answered : (p : Plan) (g n : ℕ) (s : Selection) → plan_fault p ≡ 0
-    → ((t : Tree) → tree_at most_levels p.nodes 0 ≡ some t → s ≡ selection_of (selector_among p.gate_count (some t) g))
-    → n ≡ selection_number s → record { number = n; selection = s } ≡ path_answer p g
-unfolding path_answer
-path_answered p g n s f walked e =
-    let w = (fault_none p f).nodes in
-    let is : s ≡ plan_selection p g = walked w.tree w.is ∙ ap (λ (o : Option Tree). selection_of (selector_among p.gate_count o g)) (sym w.is) in
-    rw (eq-eqb (plan_fault p) 0 f, ← is) (ap (λ (k : ℕ). record { number = k; selection = s }) e)
+module _ (p : Plan) (g : ℕ) where
+  -- a made-up plan's is a path of zeros
+  pub path_made-up : plan_fault p ≢ 0 → path_answer p g ≡ record { number = 19; selection = Path 0 0 }
+  unfolding path_answer
+  path_made-up n = rw (ne_eqb (plan_fault p) 0 n)
 
--- a made-up plan's is a path of zeros
-pub path_made-up : (p : Plan) (g : ℕ) → plan_fault p ≢ 0 → path_answer p g ≡ record { number = 19; selection = Path 0 0 }
-unfolding path_answer
-path_made-up p g n = rw (ne_eqb (plan_fault p) 0 n)
+  -- a gate past the listed ones is not known
+  pub path_past : plan_fault p ≡ 0 → p.gate_count ≤ g → path_answer p g ≡ record { number = 12; selection = UnknownGate }
+  unfolding path_answer
+  path_past f h = rw (eq-eqb (plan_fault p) 0 f, le-ltb g p.gate_count h)
+
+  -- the answer of a plan without a fault, by the walk from node 0
+  pub path_walked : plan_fault p ≡ 0 → g < p.gate_count → (o : Optional PathWord)
+      → ((t : Tree) → tree_at most_levels p.nodes 0 ≡ some t → o ≡ spelled (path_to g t))
+      → path_answer p g ≡ record { number = 0; selection = told o }
+  unfolding path_answer
+  path_walked f h o walked =
+      let w = (fault_none p f).nodes in
+      rw (eq-eqb (plan_fault p) 0 f, lt-ltb g p.gate_count h, w.is, walked w.tree w.is, found_by (path_to g w.tree)) (by (path_to g w.tree))
+    where
+      by : (q : Option (List ℕ)) → ◌≡◌ {A = PathAnswer} (record { number = selection_number (selection_of (selected q)); selection = selection_of (selected q) }) (record { number = 0; selection = selection_of (selected q) })
+      by (some q) = refl
+      by none = refl
 
 -- no path yet
 abbrev pub zero_words : PathWords
@@ -184,16 +198,16 @@ barred-given q b e g h =
     by (suc (suc w)) t k = absurd (omega arith)
 
 -- gate 0 is listed in a plan without a fault
-pub record Fine0 (p : Plan) (r : PathAnswer) : Type 0 where
-  pub number : r.number ≡ 0
-  pub steps_are : selection_length r.selection ≡ length (plan_path p 0)
+pub record Fine0 (p : Plan) : Type 0 where
+  pub number : (path_answer p 0).number ≡ 0
+  pub steps_are : selection_length (path_answer p 0).selection ≡ length (plan_path p 0)
 
-module _ (p : Plan) (r : PathAnswer) (e : r ≡ path_answer p 0) where
-  pub path_refused : plan_fault p ≡ 0 → Fine0 p r
+module _ (p : Plan) where
+  pub path_fine : plan_fault p ≡ 0 → Fine0 p
   unfolding path_answer
-  path_refused f =
+  path_fine f =
       let w = fault_none p f in
-      let a : r ≡ record { number = selection_number (plan_selection p 0); selection = plan_selection p 0 } = e ∙ rw (eq-eqb (plan_fault p) 0 f) in
+      let a : path_answer p 0 ≡ record { number = selection_number (plan_selection p 0); selection = plan_selection p 0 } = rw (eq-eqb (plan_fault p) 0 f) in
       record {
         number = ap (λ (z : PathAnswer). z.number) a ∙ rw (lt-ltb 0 p.gate_count w.some-gates, w.nodes.is) (listed_number (path_to 0 w.nodes.tree));
         steps_are = ap (λ (z : PathAnswer). selection_length z.selection) a ∙ (selection_steps (plan_selector p 0)).1;
@@ -203,10 +217,14 @@ module _ (p : Plan) (r : PathAnswer) (e : r ≡ path_answer p 0) where
       listed_number (some q) = refl
       listed_number none = refl
 
-  pub path_fine : r.number ≡ 0 → plan_fault p ≡ 0
-  path_fine z = go (ℕ_discrete (plan_fault p) 0)
+  pub no_fault : (path_answer p 0).number ≡ 0 → plan_fault p ≡ 0
+  no_fault z = go (ℕ_discrete (plan_fault p) 0)
     where
       go : Dec (plan_fault p ≡ 0) → plan_fault p ≡ 0
       go (yes f) = f
-      go (no n) =
-          absurd (omega (arith, z, ap (λ (y : PathAnswer). y.number) (e ∙ path_made-up p 0 n)))
+      go (no n) = absurd (omega (arith, z, ap (λ (y : PathAnswer). y.number) (path_made-up p 0 n)))
+
+-- a made-up plan has no table-id index
+pub table_made-up : (p : Plan) → plan_fault p ≢ 0 → table_id_answer p ≡ record { number = (path_answer p 0).number; count = 0; index = 0 }
+unfolding path_answer table_id_answer
+table_made-up p n = rw (ne_eqb (plan_fault p) 0 n)

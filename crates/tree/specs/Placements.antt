@@ -1,18 +1,18 @@
 -- A path in words, as the walk to a gate answers it, and the words of all paths, as one walk of the tree writes them.
 --
 -- Main definitions: `spelled`, `placed`.
-use Rattle.std.specs.Prelude.{◌*◌, ◌+◌, ℕ, ltb, length, set, false, true, List}
+use Rattle.std.specs.Prelude.{◌*◌, ◌+◌, ℕ, ltb, length, set, List, Option as Optional, Some, None}
 use Rattle.std.proofs.Math.Option.{Option, none, some}
 use Rattle.base.specs.Pick.{pick}
 use Rattle.selector.specs.Paths.{bits_of}
 use Rattle.base.specs.Limits.{most_gates}
 use Rattle.selector.specs.Tree.{Tree, fork, leaf}
-use Rattle.tree.specs.declared.paths.Placement.{Placement}
+use Rattle.tree.specs.declared.paths.Path.{Path}
 
--- bits and length; zeros where there is no path
-abbrev pub spelled : Option (List ℕ) → Placement
-spelled (some p) = record { found = true; bits = bits_of p; length = length p }
-spelled none = record { found = false; bits = 0; length = 0 }
+-- bits and length
+abbrev pub spelled : Option (List ℕ) → Optional Path
+spelled (some p) = Some (record { bits = bits_of p; length = length p })
+spelled none = None
 
 -- the words of all paths: bits and lengths, one of each a gate
 pub record PathWords : Type 0 where

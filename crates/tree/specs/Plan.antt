@@ -1,6 +1,6 @@
 -- 01, 'When a call is turned down' and 'Gates and tree': what planning, the test for a made-up plan, paths and the table-id index answer, for any arguments.
 --
--- Main definitions: `plan_number`, `planned`, `plan_in`, `plan_fault`, `plan_selector`, `path_answer`, `plan_barred`, `gate_rows_answer`, `table_id_answer`.
+-- Main definitions: `plan_number`, `planned`, `plan_in`, `parts_plan`, `plan_fault`, `plan_selector`, `path_answer`, `plan_barred`, `gate_rows_answer`, `table_id_answer`.
 use Rattle.std.specs.Prelude.{◌*◌, ℕ, eqb, leb, ltb, drop, length, replicate, take, Bool, false, List, ◌++◌}
 use Rattle.std.proofs.Math.Option.{Option, none, some}
 use Rattle.base.specs.Firsts.{or_number}
@@ -17,19 +17,16 @@ use Rattle.selector.specs.Search.{plan_tree}
 use Rattle.selector.specs.Tree.{Tree}
 use Rattle.parameters.specs.Lookup.{flag_of, mode_of, share_of, width_of}
 use Rattle.parameters.specs.Parameters.{lookup_of, parameters_number}
-use Rattle.tree.specs.Selection.{selection_bits, selection_length, selection_number, selection_of}
+use Rattle.tree.specs.Answers.{PathAnswer, Planned, RowsAnswer, TableId, rows_told}
+use Rattle.tree.specs.Selection.{Path, Selection, selection_bits, selection_length, selection_number, selection_of}
 use Rattle.tree.specs.Shapes.{shape_of}
 use Rattle.parameters.specs.declared.lookup.LookupParameters.TheVariants.{NoLookup}
 use Rattle.tree.specs.declared.gate_rows.GateRows.{GateRows}
 use Rattle.tree.specs.declared.nodes.Shape.{Shape}
 use Rattle.parameters.specs.declared.parameters.Parameters.{Parameters}
 use Rattle.tree.specs.declared.plan.Outline.{Outline}
-use Rattle.tree.specs.declared.plan.PathAnswer.{PathAnswer}
+use Rattle.tree.specs.declared.plan.Parts.{Parts}
 use Rattle.tree.specs.declared.plan.Plan.{Plan}
-use Rattle.tree.specs.declared.plan.TableId.{TableId}
-use Rattle.tree.specs.declared.planning.Planned.{Planned}
-use Rattle.tree.specs.declared.selection.Selection.{Selection}
-use Rattle.tree.specs.declared.selection.Selection.TheVariants.{Path}
 
 -- "Refused planning, path or opening hands back a plan, path or state of zeros"
 abbrev pub zero_plan : Plan
@@ -130,6 +127,10 @@ plan_in o gs ns =
       factor = o.told.factor;
     }
 
+-- the plan that is lent in parts
+abbrev pub parts_plan : Parts → Plan
+parts_plan p = plan_in p.outline p.gates.now p.nodes.now
+
 -- the parameter words of a plan
 abbrev pub parameters_in : Outline → Parameters
 parameters_in o =
@@ -216,7 +217,7 @@ abbrev pub for_listed : Plan → (ℕ → ℕ) → List ℕ
 for_listed p f = table most_gates (λ (g : ℕ). pick (ltb g p.gate_count) (f g) 0)
 
 -- what rows need of each gate: its path, whether its rows are turned away, and its own number of constants
-abbrev pub gate_rows_of : Plan → GateRows
+abbrev pub gate_rows_of : Plan → RowsAnswer
 gate_rows_of p =
     record {
       number = 0;
@@ -227,7 +228,7 @@ gate_rows_of p =
       own = for_listed p (plan_own p);
     }
 
-abbrev pub no_gate_rows : GateRows
+abbrev pub no_gate_rows : RowsAnswer
 no_gate_rows =
     record {
       number = 19;
@@ -238,8 +239,12 @@ no_gate_rows =
       own = replicate most_gates 0;
     }
 
+-- the words of all gates of no plan
+abbrev pub no_rows : GateRows
+no_rows = rows_told no_gate_rows
+
 -- 19 first
-unfoldable pub gate_rows_answer : Plan → GateRows
+unfoldable pub gate_rows_answer : Plan → RowsAnswer
 gate_rows_answer p = pick (eqb (plan_fault p) 0) (gate_rows_of p) no_gate_rows
 
 -- "Table-id column: mode 2 the lookup path's length, mode 4 K, else none"; 19 first

@@ -25,12 +25,12 @@ use Rattle.selector.specs.Tree.{Tree, leaf}
 use Rattle.parameters.specs.Lookup.{mode_of}
 use Rattle.parameters.specs.Parameters.{flag_number, lookup_of, parameters_number, range_number}
 use Rattle.parameters.specs.ParametersLaws.{InRange, in_range, lookup_words}
+use Rattle.tree.specs.Answers.{Planned}
 use Rattle.tree.specs.Plan.{gates_given, gate_array, parameters_of, plan_answer, plan_extra, plan_fault, plan_number, plan_with, planned, tree_for, tree_number, words_number, zero_plan}
 use Rattle.tree.specs.Shapes.{shape_of}
 use Rattle.tree.specs.declared.nodes.Shape.{Shape}
 use Rattle.parameters.specs.declared.parameters.Parameters.{Parameters}
 use Rattle.tree.specs.declared.plan.Plan.{Plan}
-use Rattle.tree.specs.declared.planning.Planned.{Planned}
 
 -- what a plan that passes 19 is known to have
 pub record Faultless (p : Plan) : Type 0 where

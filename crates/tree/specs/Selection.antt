@@ -1,11 +1,15 @@
 -- 02, Change 2, what is answered of a gate, in words: "For each case of an enum answer, a definition gives this paper's number and values."
 --
--- Main definitions: `selection_of`, `selection_number`, `selection_bits`, `selection_length`, `selection_bare`, `selector_of`. Main statement: `selection_steps`.
+-- Main definitions: `Selection`, `selection_of`, `selection_number`, `selection_bits`, `selection_length`, `selection_bare`, `selector_of`. Main statement: `selection_steps`.
 use Rattle.std.specs.Prelude.{ℕ, length, ◌≡◌, refl}
 use Rattle.base.specs.Digits.{digits}
 use Rattle.selector.specs.Paths.{Selector, a_path, bits_of, no_selector, steps, unknown_gate}
-use Rattle.tree.specs.declared.selection.Selection.{Selection}
-use Rattle.tree.specs.declared.selection.Selection.TheVariants.{NoSelector, Path, UnknownGate}
+
+-- what is answered of a gate: a path, by its bits and its length, no selector, or that the gate is not known
+pub data Selection : Type 0 where
+  Path : ℕ → ℕ → Selection
+  NoSelector : Selection
+  UnknownGate : Selection
 
 -- a path in words: "bits and a length"
 abbrev pub selection_of : Selector → Selection

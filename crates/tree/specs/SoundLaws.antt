@@ -29,6 +29,7 @@ use Rattle.selector.specs.Tree.{Tree}
 use Rattle.parameters.specs.Lookup.{mode_of, width_of}
 use Rattle.parameters.specs.Parameters.{flag_number, parameters_number, range_number}
 use Rattle.parameters.specs.ParametersLaws.{InRange, in_range}
+use Rattle.tree.specs.Answers.{rows_told}
 use Rattle.tree.specs.Plan.{for_listed, gate_rows_answer, gate_rows_of, gates_given, parameters_of, path_answer, plan_barred, plan_blocked, plan_extra, plan_fault, plan_own, plan_path, plan_placed, plan_selection, plan_selector}
 use Rattle.tree.specs.PlanLaws.{Faultless, fault_none}
 use Rattle.tree.specs.Selection.{selection_steps, selection_bits, selection_length, selection_of, selector_of}
@@ -177,18 +178,18 @@ module _ (q : Plan) (e : plan_fault q ≡ 0) where
   listed_word : (f : ℕ → ℕ) (g : ℕ) → g < many → get_or (for_listed q f) g 0 ≡ f g
   listed_word f g h = table_at most_gates (λ (k : ℕ). pick (ltb k many) (f k) 0) g (omega (arith, whole.few_gates)) ∙ rw (lt-ltb g many h)
 
-  module _ (r : GateRows) (a : r ≡ gate_rows_answer q) where
+  module _ (r : GateRows) (a : r ≡ rows_told (gate_rows_answer q)) where
     pub gates-many : r.many ≡ many
-    gates-many = ap (λ (z : GateRows). z.many) (a ∙ rows_are)
+    gates-many = ap (λ (z : GateRows). z.many) (a ∙ ap rows_told rows_are)
 
     pub gate-words : (g : ℕ) → g < many → GateWords q r g
     gate-words g h =
-        let b : get_or r.bits g 0 ≡ selection_bits (plan_selection q g) = ap (λ (z : GateRows). get_or z.bits g 0) (a ∙ rows_are) ∙ listed_word (λ (k : ℕ). selection_bits (plan_selection q k)) g h in
-        let s : get_or r.steps g 0 ≡ selection_length (plan_selection q g) = ap (λ (z : GateRows). get_or z.steps g 0) (a ∙ rows_are) ∙ listed_word (λ (k : ℕ). selection_length (plan_selection q k)) g h in
+        let b : get_or r.bits g 0 ≡ selection_bits (plan_selection q g) = ap (λ (z : GateRows). get_or z.bits g 0) (a ∙ ap rows_told rows_are) ∙ listed_word (λ (k : ℕ). selection_bits (plan_selection q k)) g h in
+        let s : get_or r.steps g 0 ≡ selection_length (plan_selection q g) = ap (λ (z : GateRows). get_or z.steps g 0) (a ∙ ap rows_told rows_are) ∙ listed_word (λ (k : ℕ). selection_length (plan_selection q k)) g h in
         record {
           path = rw (b, s) (spelled g);
-          barred = ap (λ (z : GateRows). get_or z.barred g 0) (a ∙ rows_are) ∙ listed_word (λ (k : ℕ). pick (plan_barred q k) 1 0) g h;
-          own = ap (λ (z : GateRows). get_or z.own g 0) (a ∙ rows_are) ∙ listed_word (plan_own q) g h;
+          barred = ap (λ (z : GateRows). get_or z.barred g 0) (a ∙ ap rows_told rows_are) ∙ listed_word (λ (k : ℕ). pick (plan_barred q k) 1 0) g h;
+          own = ap (λ (z : GateRows). get_or z.own g 0) (a ∙ ap rows_told rows_are) ∙ listed_word (plan_own q) g h;
         }
 
   -- the paths of two placed gates part

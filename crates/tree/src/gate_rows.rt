@@ -6,36 +6,20 @@ ghost use Rattle.base.specs.Fills.{Filled};
 ghost use Rattle.selector.specs.Gates.{gate_words, constants_of};
 ghost use Rattle.selector.specs.MadeUp.{wanted};
 ghost use Rattle.selector.specs.Markers.{marker_ends};
-ghost use Rattle.tree.specs.Plan.{no_gate_rows};
 
 use crate::gates::constants_of;
 use crate::made_up::wanted_of;
 use selector::{GATE_WORDS, MOST_GATES, Marks};
 
-// A refusal number, or 0, and how many gates are listed; of each the bits and the steps of its path, zeros without one, 1 where its rows are turned away (23), and its own number of
-// constants. All of it is 0 for a made-up plan, and so are the words of gates that are not listed.
+// How many gates are listed; of each the bits and the steps of its path, zeros without one, 1 where its rows are turned away (23), and its own number of
+// constants. The words of gates that are not listed are 0.
 #[derive(Clone, Copy)]
 pub struct GateRows {
-    pub number: u64,
     pub many: u64,
     pub bits: Marks,
     pub steps: Marks,
     pub barred: Marks,
     pub own: Marks,
-}
-
-// The answer for a made-up plan.
-pub(crate) fn no_gate_rows() -> GateRows
-    ensures { result ≡ no_gate_rows }
-{
-    GateRows {
-        number: 19,
-        many: 0,
-        bits: [0; MOST_GATES],
-        steps: [0; MOST_GATES],
-        barred: [0; MOST_GATES],
-        own: [0; MOST_GATES],
-    }
 }
 
 // 0 where a gate of kind 1 has the path of zeros, else 1: by the kinds of the gates, and by the bits of their paths.

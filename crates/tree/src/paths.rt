@@ -1,5 +1,5 @@
 // The path of a gate in a plan's nodes, and those of all gates.
-ghost use Rattle.std.specs.Prelude.{◌≡◌, ℕ, ◌+◌, ◌^◌, ◌≤◌, ◌<◌, length};
+ghost use Rattle.std.specs.Prelude.{◌≡◌, ℕ, ◌+◌, ◌^◌, ◌≤◌, ◌<◌, IfSome, length};
 ghost use Rattle.std.proofs.Math.Option.{some};
 ghost use Rattle.selector.specs.Tree.{Tree};
 ghost use Rattle.selector.specs.Paths.{path_to};
@@ -9,10 +9,9 @@ ghost use Rattle.tree.specs.Placements.{spelled, path_words, placed};
 
 use selector::{MOST_GATES, Marks, NODE_WORDS};
 
-// A path's bits, the step from the root least, and its length; zeros where the gate was not found.
+// The steps from the root to a gate: bit i of `bits`, from the least, is step i.
 #[derive(Clone, Copy)]
-pub struct Placement {
-    pub found: bool,
+pub struct Path {
     pub bits: u64,
     pub length: u64,
 }
@@ -24,45 +23,35 @@ pub(crate) fn output_placement(
     at: usize,
     gate: u64,
     levels: u64,
-) -> Placement
+) -> Option<Path>
     requires links { Links nodes.now count }
     requires at_lt_count { (at < count) × (count ≤ most_nodes) × (levels ≤ most_levels) × (node_slots ≤ length nodes.now) }
     ensures value { (t : Tree) → tree_at levels nodes.now at ≡ some t → result ≡ spelled (path_to gate t) }
-    ensures bits_bound { (result.bits < 2 ^ levels) × (result.length ≤ levels) }
+    ensures bits_bound { IfSome result (λ path. (path.bits < 2 ^ levels) × (path.length ≤ levels)) }
 {
     if levels == 0 {
-        return Placement {
-            found: false,
-            bits: 0,
-            length: 0,
-        };
+        return None;
     }
     let left = nodes[at * NODE_WORDS] as usize;
     if left == 0 {
-        return Placement {
-            found: gate == nodes[at * NODE_WORDS + 2],
-            bits: 0,
-            length: 0,
+        return if gate == nodes[at * NODE_WORDS + 2] {
+            Some(Path { bits: 0, length: 0 })
+        } else {
+            None
         };
     }
-    let one = output_placement(nodes, count, left, gate, levels - 1);
-    if one.found {
-        return Placement {
-            found: true,
-            bits: one.bits * 2 + 1,
-            length: one.length + 1,
-        };
+    if let Some(path) = output_placement(nodes, count, left, gate, levels - 1) {
+        return Some(Path {
+            bits: path.bits * 2 + 1,
+            length: path.length + 1,
+        });
     }
     let right = nodes[at * NODE_WORDS + 1] as usize;
-    let two = output_placement(nodes, count, right, gate, levels - 1);
-    if two.found {
-        return Placement {
-            found: true,
-            bits: two.bits * 2,
-            length: two.length + 1,
-        };
-    }
-    two
+    let path = output_placement(nodes, count, right, gate, levels - 1)?;
+    Some(Path {
+        bits: path.bits * 2,
+        length: path.length + 1,
+    })
 }
 
 // The path of each gate at a leaf below a node, at most `levels` deep, is written. `path` and `depth` are the bits and the length of the node's own path, and

@@ -1,76 +1,53 @@
 // Planning.
+ghost use Rattle.std.specs.Prelude.{◌≡◌, ◌≤◌, length};
 ghost use Rattle.selector.specs.Gates.{gate_slots};
-ghost use Rattle.std.specs.Prelude.{◌≡◌, ◌≤◌, ◌++◌, length, drop};
-ghost use Rattle.tree.specs.PlanLaws.{refused_plan};
-ghost use Rattle.tree.specs.Plan.{words_number, plan_answer};
+ghost use Rattle.refusal.specs.Refusal.{answer_number, answer_or};
+ghost use Rattle.tree.specs.Plan.{gate_array, words_number, plan_answer, zero_plan};
 
 use crate::nodes::shape_of;
 use crate::plan::Plan;
-use crate::refusals::{extra_of, gates_number, words_fit};
+use crate::refusals::{check_gates, extra_of, words_fit};
 use parameters::parameters::Parameters;
+use refusal::Refusal;
 use selector::{GATE_SLOTS, GATE_WORDS, GateSlots};
 
-// A refusal number, or 0, and the plan; after a refusal a plan of zeros.
-#[derive(Clone, Copy)]
-pub struct Planned {
-    pub number: u64,
-    pub plan: Plan,
-}
-
 // The refusals 1 to 7, the first that comes.
-fn words_number(parameters: Parameters, gates: &[u64]) -> u64
-    ensures { result ≡ words_number parameters gates.now }
+#[tactic(auto, using(crate::proofs::TestLaws::tests), unfolding(crate::specs::Plan::words_number, base::specs::Firsts::or_number))]
+fn check_words(parameters: Parameters, gates: &[u64]) -> Result<(), Refusal>
+    ensures { answer_number result ≡ words_number parameters gates.now }
 {
-    let number = parameters.number();
-    if number != 0 {
-        return number;
+    parameters.check()?;
+    if !words_fit(gates) {
+        return Err(Refusal::GateCount);
     }
-    if words_fit(gates) {
-        let many = gates.len() / GATE_WORDS;
-        return gates_number(gates, many, parameters.mode, parameters.allowed);
-    }
-    3
+    let many = gates.len() / GATE_WORDS;
+    check_gates(gates, many, parameters.mode, parameters.allowed)
 }
 
-// Gate words go to the front of a plan's array.
-fn copy_gates(gates: &[u64], kept: &mut GateSlots)
-    requires { (length gates.now ≤ gate_slots) × (length kept.old ≡ gate_slots) }
-    ensures { kept.new ≡ gates.now ++ drop (length gates.now) kept.old }
+// Gate words at the front of a plan's array; the words behind them are 0.
+fn in_array(gates: &[u64]) -> GateSlots
+    requires { length gates.now ≤ gate_slots }
+    ensures { result ≡ gate_array gates.now }
 {
-    let mut i: usize = 0;
-    while i < gates.len() {
-        kept[i] = gates[i];
-        i = i + 1;
-    }
-}
-
-// A refusal of planning.
-fn refused(number: u64) -> Planned
-    ensures { result ≡ refused_plan number }
-{
-    Planned {
-        number: number,
-        plan: Plan::zero(),
-    }
+    let mut words = [0; GATE_SLOTS];
+    words[..gates.len()].copy_from_slice(gates);
+    words
 }
 
 // The plan for any eight parameter words and any gate words, or the first refusal of 1 to 8.
-pub fn plan(parameters: Parameters, gates: &[u64]) -> Planned
-    ensures { result ≡ plan_answer parameters gates.now }
+pub fn plan(parameters: Parameters, gates: &[u64]) -> Result<Plan, Refusal>
+    ensures number { answer_number result ≡ (plan_answer parameters gates.now).number }
+    ensures plan { answer_or zero_plan result ≡ (plan_answer parameters gates.now).plan }
 {
-    let number = words_number(parameters, gates);
-    if number != 0 {
-        return refused(number);
-    }
+    check_words(parameters, gates)?;
     let many = gates.len() / GATE_WORDS;
     let shape = shape_of(gates, many, extra_of(parameters.mode));
     if shape.count == 0 {
-        return refused(8);
+        return Err(Refusal::NoPlace);
     }
-    let mut kept = [0; GATE_SLOTS];
-    copy_gates(gates, &mut kept);
+    let kept = in_array(gates);
     let nodes = shape.nodes;
-    let plan = Plan {
+    Ok(Plan {
         trace: parameters.trace,
         copy: parameters.copy,
         allowed: parameters.allowed,
@@ -79,14 +56,10 @@ pub fn plan(parameters: Parameters, gates: &[u64]) -> Planned
         lookup: parameters.lookup(),
         gates: kept,
         gate_count: many as u64,
-        nodes: nodes,
+        nodes,
         node_count: shape.count,
         degree: shape.degree,
         constants: shape.constants,
         factor: shape.factor,
-    };
-    Planned {
-        number: 0,
-        plan: plan,
-    }
+    })
 }

@@ -1,62 +1,49 @@
 // The refusals 3 to 7, which are about gate records.
 ghost use Rattle.std.specs.Prelude.{◌≡◌, ℕ, ◌-◌, ◌*◌, ◌≤◌, ◌<◌, length};
+ghost use Rattle.refusal.specs.Refusal.{answer_number};
 ghost use Rattle.selector.specs.Gates.{gate_words, placed_gates, top_constants};
 ghost use Rattle.selector.specs.Refusals.{words_fit, record_number, records_number, lists_lookup, some_kind, lookup_number, kinds_number, constants_number, extra_of, gates_number};
 
 use crate::gates::constants_of;
+use refusal::Refusal;
 use selector::{GATE_WORDS, MOST_GATES};
 
 // Three words each for 1 to 128 gates; else the refusal is 3.
+#[tactic(auto, using(crate::proofs::TestLaws::tests), unfolding(selector::specs::Refusals::words_fit))]
 pub(crate) fn words_fit(gates: &[u64]) -> bool
     ensures { result ≡ words_fit gates.now }
 {
     let many = gates.len() / GATE_WORDS;
-    if many * GATE_WORDS == gates.len() {
-        if many < 1 {
-            return false;
-        }
-        return many <= MOST_GATES;
-    }
-    false
+    many * GATE_WORDS == gates.len() && 1 <= many && many <= MOST_GATES
 }
 
-// The refusal of a record: 4, or 0.
-fn record_number(kind: u64, degree: u64, constants: u64) -> u64
-    ensures { result ≡ record_number kind degree constants }
+// The words of one gate: 4.
+#[tactic(auto, using(crate::proofs::TestLaws::tests), unfolding(selector::specs::Refusals::record_number))]
+fn check_record(kind: u64, degree: u64, constants: u64) -> Result<(), Refusal>
+    ensures { answer_number result ≡ record_number kind degree constants }
 {
-    match kind {
-        0 => match degree {
-            1..=64 => match constants {
-                0..=16 => 0,
-                _ => 4,
-            },
-            _ => 4,
-        },
-        1..=3 => match degree {
-            0 => match constants {
-                0 => 0,
-                _ => 4,
-            },
-            _ => 4,
-        },
-        _ => 4,
+    let fits = match kind {
+        0 => 1 <= degree && degree <= 64 && constants <= 16,
+        1..=3 => degree == 0 && constants == 0,
+        _ => false,
+    };
+    if fits {
+        Ok(())
+    } else {
+        Err(Refusal::GateRecord)
     }
 }
 
 // "4 first bad record".
-fn records_number(gates: &[u64], many: usize) -> u64
+fn check_records(gates: &[u64], many: usize) -> Result<(), Refusal>
     requires { many * gate_words ≤ length gates.now }
-    ensures { result ≡ records_number many gates.now 0 }
+    ensures { answer_number result ≡ records_number many gates.now 0 }
 {
-    let mut g: usize = 0;
-    while g < many {
+    for g in 0..many {
         let at = g * GATE_WORDS;
-        if record_number(gates[at], gates[at + 1], gates[at + 2]) != 0 {
-            return 4;
-        }
-        g = g + 1;
+        check_record(gates[at], gates[at + 1], gates[at + 2])?;
     }
-    0
+    Ok(())
 }
 
 // Whether one of the gates from `from` on has this kind.
@@ -64,12 +51,10 @@ fn some_kind(gates: &[u64], many: usize, kind: u64, from: usize) -> bool
     requires { (many * gate_words ≤ length gates.now) × (from ≤ many) }
     ensures { result ≡ some_kind kind (many - from) gates.now from }
 {
-    let mut g = from;
-    while g < many {
+    for g in from..many {
         if gates[g * GATE_WORDS] == kind {
             return true;
         }
-        g = g + 1;
     }
     false
 }
@@ -78,57 +63,42 @@ fn some_kind(gates: &[u64], many: usize, kind: u64, from: usize) -> bool
 fn lists_lookup(mode: u64) -> bool
     ensures { result ≡ lists_lookup mode }
 {
-    if mode < 1 {
-        return false;
-    }
-    mode <= 2
+    1 <= mode && mode <= 2
 }
 
 // "5 kind 3 elsewhere than first in mode 1 or 2, missing there, or a single gate in a lookup mode".
-fn lookup_number(gates: &[u64], many: usize, mode: u64) -> u64
+#[tactic(auto, using(crate::proofs::TestLaws::tests), unfolding(selector::specs::Refusals::lookup_number))]
+fn check_lookup(gates: &[u64], many: usize, mode: u64) -> Result<(), Refusal>
     requires { (many * gate_words ≤ length gates.now) × (0 < many) }
-    ensures { result ≡ lookup_number mode gates.now many }
+    ensures { answer_number result ≡ lookup_number mode gates.now many }
 {
     if some_kind(gates, many, 3, 1) {
-        return 5;
+        return Err(Refusal::LookupGate);
     }
-    let first = gates[0];
-    if many == 1 {
-        if mode != 0 {
-            return 5;
-        }
-        if first == 3 {
-            return 5;
-        }
-        return 0;
+    let lookup_first = gates[0] == 3;
+    let fits = if many == 1 {
+        mode == 0 && !lookup_first
+    } else {
+        lists_lookup(mode) == lookup_first
+    };
+    if fits {
+        Ok(())
+    } else {
+        Err(Refusal::LookupGate)
     }
-    if lists_lookup(mode) {
-        if first == 3 {
-            return 0;
-        }
-        return 5;
-    }
-    if first == 3 {
-        return 5;
-    }
-    0
 }
 
 // "6 several gates, none of kind 0 or 3".
-fn kinds_number(gates: &[u64], many: usize) -> u64
+#[tactic(auto, using(crate::proofs::TestLaws::tests), unfolding(selector::specs::Refusals::kinds_number))]
+fn check_kinds(gates: &[u64], many: usize) -> Result<(), Refusal>
     requires { many * gate_words ≤ length gates.now }
-    ensures { result ≡ kinds_number gates.now many }
+    ensures { answer_number result ≡ kinds_number gates.now many }
 {
-    if many == 1 {
-        return 0;
+    if many == 1 || some_kind(gates, many, 0, 0) || some_kind(gates, many, 3, 0) {
+        Ok(())
+    } else {
+        Err(Refusal::NothingEvaluated)
     }
-    if some_kind(gates, many, 0, 0) {
-        return 0;
-    }
-    if some_kind(gates, many, 3, 0) {
-        return 0;
-    }
-    6
 }
 
 // G.
@@ -148,48 +118,43 @@ fn top_constants(gates: &[u64], many: usize, extra: u64) -> u64
 }
 
 // "7 G (or a lone gate's constants) above A".
-fn constants_number(gates: &[u64], many: usize, extra: u64, allowed: u64) -> u64
+#[tactic(auto, using(crate::proofs::TestLaws::tests), unfolding(selector::specs::Refusals::constants_number))]
+fn check_constants(gates: &[u64], many: usize, extra: u64, allowed: u64) -> Result<(), Refusal>
     requires { (many * gate_words ≤ length gates.now) × (0 < many) }
-    ensures { result ≡ constants_number extra allowed gates.now many }
+    ensures { answer_number result ≡ constants_number extra allowed gates.now many }
 {
-    if many == 1 {
-        if constants_of(gates, 0, extra) <= allowed {
-            return 0;
-        }
-        return 7;
+    let most = if many == 1 {
+        constants_of(gates, 0, extra)
+    } else {
+        top_constants(gates, many, extra)
+    };
+    if most <= allowed {
+        Ok(())
+    } else {
+        Err(Refusal::Constants)
     }
-    if top_constants(gates, many, extra) <= allowed {
-        return 0;
-    }
-    7
 }
 
 // "Mode 2 gives the lookup gate one constant."
 pub(crate) fn extra_of(mode: u64) -> u64
     ensures { result ≡ extra_of mode }
 {
-    if mode == 2 {
-        return 1;
-    }
-    0
+    u64::from(mode == 2)
 }
 
 // The refusals 4 to 7 of the first `many` records, the first that comes.
-pub(crate) fn gates_number(gates: &[u64], many: usize, mode: u64, allowed: u64) -> u64
+#[tactic(auto, using(crate::proofs::TestLaws::tests), unfolding(selector::specs::Refusals::gates_number, base::specs::Firsts::or_number))]
+pub(crate) fn check_gates(
+    gates: &[u64],
+    many: usize,
+    mode: u64,
+    allowed: u64,
+) -> Result<(), Refusal>
     requires { (many * gate_words ≤ length gates.now) × (0 < many) }
-    ensures { result ≡ gates_number mode allowed gates.now many }
+    ensures { answer_number result ≡ gates_number mode allowed gates.now many }
 {
-    let records = records_number(gates, many);
-    if records != 0 {
-        return records;
-    }
-    let lookup = lookup_number(gates, many, mode);
-    if lookup != 0 {
-        return lookup;
-    }
-    let kinds = kinds_number(gates, many);
-    if kinds != 0 {
-        return kinds;
-    }
-    constants_number(gates, many, extra_of(mode), allowed)
+    check_records(gates, many)?;
+    check_lookup(gates, many, mode)?;
+    check_kinds(gates, many)?;
+    check_constants(gates, many, extra_of(mode), allowed)
 }

@@ -1,10 +1,7 @@
 -- `refusals::some_kind` meets its contract: among the gates that are left, from the present one on, there is one if there is one among all.
-use Rattle.std.proofs.Common.{◌∙◌, refl, sym, arith}
+use Rattle.std.proofs.Common.{◌∙◌, sym, arith}
 use Rattle.tree.proofs.RefusalsLaws.{kind_done, kind_found, kind_next}
 use Rattle.tree.proofs.refusals.some_kind.Goals as goal
-
-pub loop-g-init : goal.loop-g-init
-loop-g-init c = (omega arith, refl)
 
 pub returns-then-gates-g : goal.returns-then-gates-g
 returns-then-gates-g c =

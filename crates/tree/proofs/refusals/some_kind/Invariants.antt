@@ -5,6 +5,3 @@ use Rattle.tree.proofs.refusals.some_kind.Given as goal
 
 abbrev pub invariant-loop-g : goal.invariant-loop-g
 invariant-loop-g l = (l.g ≤ l.many) × (some_kind l.kind (l.many - l.from) l.gates l.from ≡ some_kind l.kind (l.many - l.g) l.gates l.g)
-
-abbrev pub decreases-loop-g : goal.decreases-loop-g
-decreases-loop-g l = l.many - l.g
