@@ -89,11 +89,11 @@ impl Refusal {
 }
 
 // What an answer is as a number: 0 where the call was accepted.
-pub fn answer_number(answer: Result<(), Refusal>) -> u64
-    ensures { result ≡ answer_number answer }
+pub fn answer_number<T>(answer: &Result<T, Refusal>) -> u64
+    ensures { result ≡ answer_number answer.now }
 {
     match answer {
-        Ok(()) => 0,
+        Ok(_) => 0,
         Err(refusal) => refusal.number(),
     }
 }

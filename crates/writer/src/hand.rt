@@ -42,5 +42,5 @@ pub fn hand_unless(number: u64, words: &[u64], out: &mut [u64]) -> u64
     if number != 0 {
         return number;
     }
-    answer_number(hand_out(words, out))
+    answer_number(&hand_out(words, out))
 }
