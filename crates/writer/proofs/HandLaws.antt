@@ -11,8 +11,7 @@ use Rattle.base.specs.Firsts.{first_found, first-none, first-zero}
 use Rattle.base.specs.Pick.{pick, pick_no, pick_yes, pick-zero}
 use Rattle.writer.specs.Put.{put, put_if}
 use Rattle.writer.specs.PutLaws.{put_front}
-use Rattle.writer.specs.Hand.{hand_answer, hand_left, hand_number, handed}
-use Rattle.writer.specs.declared.hand.Wrote.{Wrote}
+use Rattle.writer.specs.Hand.{Wrote, hand_answer, hand_left, hand_number, handed}
 
 -- words put at the front
 pub handed-front : (new old : List ℕ) → put_if 0 new old ≡ handed new old

@@ -6,14 +6,6 @@ ghost use Rattle.writer.specs.Hand.{hand_left, hand_number, handed};
 use crate::put::put_words;
 use refusal::{Refusal, answer_number};
 
-// What a call that writes a listing answers: 0 or a refusal number, and how many words were written,
-// none after a refusal.
-#[derive(Clone, Copy)]
-pub struct Wrote {
-    pub number: u64,
-    pub words: u64,
-}
-
 // Words go to the front of a result slice; one that is too short keeps all its words.
 pub fn hand(words: &[u64], out: &mut [u64])
     ensures { out.new ≡ handed words.now out.old }

@@ -1,15 +1,8 @@
 -- `report::lines::put_columns` meets its contract. What is left to put are the lines of the columns that are left.
-use Rattle.std.proofs.Common.{◌≡◌, refl, sym, ap, ◌∙◌, arith, ℕ, ◌-◌, ◌*◌, length, take, drop, take_all, length-drop}
-use Rattle.report.specs.Report.{column_lines}
+use Rattle.std.proofs.Common.{◌≡◌, sym, ◌∙◌, arith, ◌-◌, ◌*◌, length, take, drop, take_all, length-drop}
 use Rattle.report.specs.ReportLaws.{columns_turn, columns_done}
-use Rattle.octets.specs.Text.{sink, put}
+use Rattle.octets.specs.Text.{sink}
 use Rattle.report.proofs.lines.put_columns.Goals as goal
-
-pub loop-i-init : goal.loop-i-init
-loop-i-init c =
-    let a = c.args in
-    let e : a.many ≡ a.many - 0 = omega arith in
-    (refl, ap (λ (k : ℕ). put (sink a.out.now a.at) (column_lines a.name.now a.trace a.words.now 0 k)) e)
 
 pub loop-i-preserved : goal.loop-i-preserved
 loop-i-preserved c =

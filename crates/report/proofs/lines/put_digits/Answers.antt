@@ -1,16 +1,10 @@
 -- `report::lines::put_digits` meets its contract. What is left of the path is what the bits left say.
-use Rattle.std.proofs.Common.{◌≡◌, refl, sym, ap, ◌∙◌, arith, ℕ, ◌-◌, ◌<◌, length}
+use Rattle.std.proofs.Common.{sym, ap, ◌∙◌, arith, ℕ, ◌<◌, length}
 use Rattle.octets.specs.Text.{sink, put}
 use Rattle.base.specs.Digits.{digits-left}
 use Rattle.report.specs.Report.{digit}
 use Rattle.report.specs.ReportLaws.{digits_turn, digits_done}
 use Rattle.report.proofs.lines.put_digits.Goals as goal
-
-pub loop-step-init : goal.loop-step-init
-loop-step-init c =
-    let a = c.args in
-    let z : a.steps - 0 ≡ a.steps = omega arith in
-    (refl, λ path s. (rw z s.digits_are, refl))
 
 pub loop-step-preserved : goal.loop-step-preserved
 loop-step-preserved c =
@@ -23,9 +17,6 @@ loop-step-preserved c =
           let d = digits-left path c.args.steps l._step l.rest v.0 c.loop-step-test.true h in
           (d.1, v.1 ∙ digits_turn (sink l.out l.place) _ path l._step h (w.ensures ∙ ap (λ (k : ℕ). put (sink l.out l.place) (digit k)) d.0)),
     )
-
-pub shape_of-out : goal.shape_of-out
-shape_of-out c = c.loop-step.invariant.0
 
 pub returns : goal.returns
 returns c = let l = c.loop-step in λ path s. sym ((l.invariant.1 path s).1 ∙ digits_done (sink l.out l.place) path l._step (omega (arith, s.steps_are)))

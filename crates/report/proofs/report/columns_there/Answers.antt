@@ -1,11 +1,9 @@
 -- `report::report::columns_there` meets its contract: a sound plan's numbers are small, so their products fit a word.
-use borrow.Author.Tests.{leb-false}
-use Rattle.std.proofs.Common.{sym, leb-true, leb, ap, ◌∙◌, arith, ℕ, ◌+◌, ◌*◌, ◌≤◌, length, mul-le-mul}
+use Rattle.std.proofs.Common.{arith, ℕ, ◌+◌, ◌*◌, ◌≤◌, mul-le-mul}
 use Rattle.columns.specs.Intake.{setting_of}
 use Rattle.report.specs.Report.{table_columns}
-use Rattle.report.specs.ReportLaws.{few_constants, few_copies, by_tables, table-room, few_tables}
+use Rattle.report.specs.ReportLaws.{few_tables}
 use Rattle.tree.specs.SoundLaws.{sound}
-use Rattle.report.proofs.report.columns_there.Goals.{then-plan-constants, else-plan-constants}
 use Rattle.report.proofs.report.columns_there.Goals as goal
 
 small : (a n b : ℕ) → a ≤ b → n ≤ 65536 → a * n ≤ b * 65536
@@ -22,22 +20,3 @@ overflow_mul-plan-then-plan-constants c = let q = c.args.plan in let w = sound c
 
 pub overflow_mul-result : goal.overflow_mul-result
 overflow_mul-result c = let q = c.args.plan in let w = sound c.args.plan c.requires in rw c.table_columns.ensures (omega (arith, small (table_columns (setting_of q)) q.trace 17 (few_tables (setting_of q) w.width) w.ranges.long))
-
-pub returns-then-plan-copies : goal.returns-then-plan-copies
-returns-then-plan-copies c =
-    let q = c.args.plan in
-    elim c.if-plan-constants.branch [
-      | then-plan-constants w ↦
-          ap (λ (k : ℕ). leb (k * q.trace) (length c.args.tables.now)) c.table_columns.ensures
-          ∙ ap (λ (k : ℕ). leb k (length c.args.tables.now)) (table-room (setting_of q))
-          ∙ by_tables (setting_of q) c.args.constants.now c.args.copies.now c.args.tables.now w.if-plan-constants.true (leb-true _ _ (sym w.value-is ∙ c.if-plan-copies.true))
-      | else-plan-constants w ↦ absurd (omega (arith, leb-true _ _ (sym (sym c.if-plan-copies.true ∙ w.value-is)), w.if-plan-constants.false))
-    ]
-
-pub returns-else-plan-copies : goal.returns-else-plan-copies
-returns-else-plan-copies c =
-    let q = c.args.plan in
-    elim c.if-plan-constants.branch [
-      | then-plan-constants w ↦ c.if-plan-copies.false ∙ few_copies (setting_of q) c.args.constants.now c.args.copies.now c.args.tables.now w.if-plan-constants.true (leb-false _ _ (sym w.value-is ∙ c.if-plan-copies.false))
-      | else-plan-constants w ↦ c.if-plan-copies.false ∙ few_constants (setting_of q) c.args.constants.now c.args.copies.now c.args.tables.now w.if-plan-constants.false
-    ]
