@@ -10,9 +10,8 @@ use Rattle.columns.specs.Intake.{store_of, rows_answer, rows_left, s_words_answe
 use Rattle.columns.specs.Given.{given_of, marked_with, marked_of, counted, remarked}
 use Rattle.columns.specs.GivenLaws.{bare, rows_whole, words_whole, cells_whole, tables_whole, finish_whole}
 use Rattle.columns.specs.declared.intake.Intake.{Intake}
-use Rattle.columns.specs.declared.intake.Taken.{Taken}
-use Rattle.columns.specs.declared.take.Given.{Given}
-use Rattle.columns.specs.declared.take.Marked.{Marked}
+use Rattle.columns.specs.Intake.{Taken}
+use Rattle.columns.specs.Given.{Given, Marked}
 use Rattle.claim.specs.Chain.{Kept, answer, left}
 use Rattle.claim.specs.Keeping.{keeping}
 use Rattle.calls.specs.Encoded.{call_by}

@@ -16,9 +16,9 @@ use Rattle.columns.specs.GivenLaws.{bare, cells_whole, finish_whole, tables_whol
 use Rattle.columns.specs.Intake.{answered, cells_answer, cells_left, finish_answer, finish_left, open_answer, open_left, refused_with, rows_answer, rows_left, s_words_answer, s_words_left, setting_of, state_of, tables_answer, tables_left, with_state}
 use Rattle.columns.specs.IntakeLaws.{cells_19, cells_refused, falls_plan, finish_19, finish_refused, open_19, open_refused, open_taken, plan_fine, rows_19, rows_refused, tables_19, tables_refused, words_19, words_refused}
 use Rattle.columns.specs.declared.intake.Intake.{Intake}
-use Rattle.columns.specs.declared.intake.Taken.{Taken}
-use Rattle.columns.specs.declared.take.Given.{Given}
-use Rattle.columns.specs.declared.take.Marked.{Marked}
+use Rattle.columns.specs.Intake.{Taken}
+use Rattle.columns.specs.Given.{Given}
+use Rattle.columns.specs.Given.{Marked}
 use Rattle.pieces.specs.Cells.{cells_number, cells_state}
 use Rattle.pieces.specs.Finishing.{finish_number, finished_state}
 use Rattle.pieces.specs.Opening.{open_number, open_state, zero_state}
@@ -31,9 +31,8 @@ use Rattle.tree.specs.Plan.{plan_fault, zero_plan}
 use Rattle.tree.specs.declared.plan.Plan.{Plan}
 use Rattle.writer.specs.Hand.{handed}
 use Rattle.encoding.specs.Encoding.{intake_of, intake_words, marks_at, plan_of, plan_words, progress_in, progress_of, progressed, state_length}
-use Rattle.encoding.specs.Holding.{gates_in, held_at, marks_read, nodes_in}
+use Rattle.encoding.specs.Holding.{Held, gates_in, held_at, marks_read, nodes_in}
 use Rattle.encoding.proofs.HeldLaws.{Holds, holds, none_fault}
-use Rattle.encoding.specs.declared.held.Held.{Held}
 use Rattle.writer.proofs.HandLaws.{handed_short}
 use Rattle.encoding.proofs.EncodingLaws.{plan_there, sound_again, state-length, state_progressed, state_written}
 use Rattle.selector.specs.Gates.{gate_slots}

@@ -4,7 +4,7 @@
 use Rattle.std.specs.Prelude.{ℕ, eqb, length, List}
 use Rattle.base.specs.Pick.{pick}
 use Rattle.calls.specs.Encoded.{Ran, calls_of, ran_by}
-use Rattle.columns.specs.declared.intake.Taken.{Taken}
+use Rattle.columns.specs.Intake.{Taken}
 use Rattle.encoding.specs.Encoding.{intake_of, state_length}
 use Rattle.pieces.specs.Setting.{Store}
 use Rattle.capi.specs.Intake.{progress_after}

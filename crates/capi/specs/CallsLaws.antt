@@ -4,7 +4,7 @@
 use Rattle.std.specs.Prelude.{ℕ, eqb, length, List, ◌≢◌, ◌≡◌}
 use Rattle.std.proofs.Common.{eq-eqb, ne_eqb, sym}
 use Rattle.base.specs.Pick.{pick_no, pick_yes}
-use Rattle.columns.specs.declared.intake.Taken.{Taken}
+use Rattle.columns.specs.Intake.{Taken}
 use Rattle.encoding.specs.Encoding.{state_length}
 use Rattle.capi.specs.Calls.{list_after}
 use Rattle.capi.specs.Intake.{progress_after}

@@ -6,9 +6,8 @@ use Rattle.std.specs.Prelude.{ℕ, eqb, leb, length, replicate, List}
 use Rattle.base.specs.Pick.{pick}
 use Rattle.columns.specs.Given.{marked_of, marked_with}
 use Rattle.columns.specs.Intake.{open_answer, open_left, with_state}
-use Rattle.columns.specs.declared.intake.Taken.{Taken}
-use Rattle.columns.specs.declared.take.Given.{Given}
-use Rattle.columns.specs.declared.take.Marked.{Marked}
+use Rattle.columns.specs.Intake.{Taken}
+use Rattle.columns.specs.Given.{Given, Marked}
 use Rattle.pieces.specs.Opening.{open_state}
 use Rattle.pieces.specs.Setting.{Store}
 use Rattle.tree.specs.Plan.{plan_fault, zero_plan}

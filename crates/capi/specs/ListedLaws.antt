@@ -14,7 +14,7 @@ use Rattle.selector.specs.Gates.{gate_slots}
 use Rattle.selector.specs.Nodes.{node_slots}
 use Rattle.pieces.specs.Setting.{Store}
 use Rattle.stage.specs.Listed.{listed_answer, listed_left}
-use Rattle.stage.specs.declared.circuit.Staged.{Staged}
+use Rattle.stage.specs.Circuit.{Staged}
 use Rattle.capi.specs.Listed.{run_call, run_left, run_plan, short_plan}
 use Rattle.capi.specs.PlanningLaws.{handed-plan}
 

@@ -9,7 +9,7 @@ use mathlib.Core.List.{List, [], ◌++◌, ◌∷◌}
 use Rattle.std.proofs.Math.Path.{ap, refl, sym}
 use Rattle.base.specs.Pick.{pick_no, pick_yes}
 use Rattle.padding.specs.Padding.{pad_answer, pad_left}
-use Rattle.writer.specs.declared.hand.Wrote.{Wrote}
+use Rattle.writer.specs.Hand.{Wrote}
 use Rattle.capi.specs.Padded.{pad_call, pad_count, pad_out}
 
 module _ (ws out count : List ℕ) where

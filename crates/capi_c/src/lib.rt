@@ -1,5 +1,5 @@
-// The library for callers in C and Rust, `libkinchoyu.a`: every export calls the function of its name in `capi`
-// and promises what that promises.
+// The library for callers in C and Rust, `libkinchoyu.a`: every export calls the function of its name in `capi`,
+// tells its answer as a number, and promises what that promises.
 #![tactic(auto)]
 
 ghost use Rattle.capi.specs.Calls.{list_after, ran_over};
@@ -11,6 +11,8 @@ ghost use Rattle.columns.specs.Intake.{cells_answer, cells_left, finish_answer, 
 ghost use Rattle.encoding.specs.Encoding.{intake_of, plan_length, state_length};
 ghost use Rattle.pieces.specs.Setting.{cols};
 ghost use Rattle.std.specs.Prelude.{◌≡◌};
+
+use refusal::answer_number;
 
 // How many words a plan has.
 #[unsafe(no_mangle)]
@@ -36,7 +38,7 @@ pub extern "C" fn kinchoyu_plan(parameters: &[u64], gates: &[u64], plan: &mut [u
     ensures value { result ≡ plan_call parameters.now gates.now plan.old }
     ensures plan_after { plan.new ≡ plan_left parameters.now gates.now plan.old }
 {
-    capi::planning::kinchoyu_plan(parameters, gates, plan)
+    answer_number(&capi::planning::kinchoyu_plan(parameters, gates, plan))
 }
 
 // Bits and length of a gate's path, and 1 where it has no selector; bit i, from the least, is step i
@@ -46,7 +48,7 @@ pub extern "C" fn kinchoyu_path(plan: &[u64], gate: u64, out: &mut [u64]) -> u64
     ensures value { result ≡ path_call plan.now gate out.old }
     ensures out_after { out.new ≡ path_left plan.now gate out.old }
 {
-    capi::planning::kinchoyu_path(plan, gate, out)
+    answer_number(&capi::planning::kinchoyu_path(plan, gate, out))
 }
 
 // How many table-id columns there are, none or one, and its index. 19, then 10 for the result; a
@@ -56,7 +58,7 @@ pub extern "C" fn kinchoyu_table_id(plan: &[u64], out: &mut [u64]) -> u64
     ensures value { result ≡ table_id_call plan.now out.old }
     ensures out_after { out.new ≡ table_id_left plan.now out.old }
 {
-    capi::planning::kinchoyu_table_id(plan, out)
+    answer_number(&capi::planning::kinchoyu_table_id(plan, out))
 }
 
 // D, K and F. 19, then 10 for the result; a refusal writes nothing.
@@ -65,7 +67,7 @@ pub extern "C" fn kinchoyu_stats(plan: &[u64], out: &mut [u64]) -> u64
     ensures value { result ≡ stats_call plan.now out.old }
     ensures out_after { out.new ≡ stats_left plan.now out.old }
 {
-    capi::planning::kinchoyu_stats(plan, out)
+    answer_number(&capi::planning::kinchoyu_stats(plan, out))
 }
 
 // The label of the cell whose number is cN + r. 10 for the result, then 1 and 9, which leave 0.
@@ -74,7 +76,7 @@ pub extern "C" fn kinchoyu_label(n: u64, c: u64, cell: u64, out: &mut [u64]) -> 
     ensures value { result ≡ label_call n c cell out.old }
     ensures out_after { out.new ≡ label_left n c cell out.old }
 {
-    capi::planning::kinchoyu_label(n, c, cell, out)
+    answer_number(&capi::planning::kinchoyu_label(n, c, cell, out))
 }
 
 // The representatives of the columns, 64 words, their N-th powers, 64 words, and how many N-th powers
@@ -84,7 +86,7 @@ pub extern "C" fn kinchoyu_representatives(n: u64, c: u64, out: &mut [u64]) -> u
     ensures value { result ≡ representatives_call n c out.old }
     ensures out_after { out.new ≡ representatives_left n c out.old }
 {
-    capi::planning::kinchoyu_representatives(n, c, out)
+    answer_number(&capi::planning::kinchoyu_representatives(n, c, out))
 }
 
 // Opens the columns of a plan. 19, then 10 for the state, then 10 for the columns, then 9; the state
@@ -102,7 +104,7 @@ pub extern "C" fn kinchoyu_open(
     ensures state_after { state.new ≡ opened_state plan.now state.old (store_of constants.old copies.old scratch.old tables.old) }
     ensures tables_after { store_of constants.new copies.new scratch.new tables.new ≡ opened_store plan.now state.old (store_of constants.old copies.old scratch.old tables.old) }
 {
-    capi::intake::kinchoyu_open(plan, state, constants, copies, scratch, tables)
+    answer_number(&capi::intake::kinchoyu_open(plan, state, constants, copies, scratch, tables))
 }
 
 // Row records: gate, number of constants, constants. 19, 10, 12, 11, 13.
@@ -112,7 +114,7 @@ pub extern "C" fn kinchoyu_rows(state: &mut [u64], piece: &[u64], constants: &mu
     ensures state_after { state.new ≡ state_words_after (rows_answer (intake_of state.old) piece.now constants.old) state.old }
     ensures constants_after { constants.new ≡ rows_left (intake_of state.old) piece.now constants.old }
 {
-    capi::intake::kinchoyu_rows(state, piece, constants)
+    answer_number(&capi::intake::kinchoyu_rows(state, piece, constants))
 }
 
 // Words of the specialised constant columns, column by column. 19, 10, 13, 11.
@@ -122,7 +124,7 @@ pub extern "C" fn kinchoyu_s_words(state: &mut [u64], piece: &[u64], constants: 
     ensures state_after { state.new ≡ state_words_after (s_words_answer (intake_of state.old) piece.now constants.old) state.old }
     ensures constants_after { constants.new ≡ s_words_left (intake_of state.old) piece.now constants.old }
 {
-    capi::intake::kinchoyu_s_words(state, piece, constants)
+    answer_number(&capi::intake::kinchoyu_s_words(state, piece, constants))
 }
 
 // Cell words of the copy columns, column by column. 19, 10, 13, 14.
@@ -137,7 +139,7 @@ pub extern "C" fn kinchoyu_cells(
     ensures state_after { state.new ≡ state_words_after (cells_answer (intake_of state.old) piece.now (cols copies.old scratch.old)) state.old }
     ensures scratch_after { cols copies.new scratch.new ≡ cells_left (intake_of state.old) piece.now (cols copies.old scratch.old) }
 {
-    capi::intake::kinchoyu_cells(state, piece, copies, scratch)
+    answer_number(&capi::intake::kinchoyu_cells(state, piece, copies, scratch))
 }
 
 // Table records: width, rows, contents row by row. 19, 10, 15, 11.
@@ -147,7 +149,7 @@ pub extern "C" fn kinchoyu_tables(state: &mut [u64], piece: &[u64], tables: &mut
     ensures state_after { state.new ≡ state_words_after (tables_answer (intake_of state.old) piece.now tables.old) state.old }
     ensures tables_after { tables.new ≡ tables_left (intake_of state.old) piece.now tables.old }
 {
-    capi::intake::kinchoyu_tables(state, piece, tables)
+    answer_number(&capi::intake::kinchoyu_tables(state, piece, tables))
 }
 
 // Finishing; scratch is read alone. 19, 10, 16, 17, 18.
@@ -157,7 +159,7 @@ pub extern "C" fn kinchoyu_finish(state: &mut [u64], copies: &mut [u64], scratch
     ensures state_after { state.new ≡ state_words_after (finish_answer (intake_of state.old) (cols copies.old scratch.now)) state.old }
     ensures copies_after { copies.new ≡ finish_left (intake_of state.old) (cols copies.old scratch.now) }
 {
-    capi::intake::kinchoyu_finish(state, copies, scratch)
+    answer_number(&capi::intake::kinchoyu_finish(state, copies, scratch))
 }
 
 // Makes the calls of a list in order, each with the state that the one before it left. For each call
@@ -179,7 +181,9 @@ pub extern "C" fn kinchoyu_calls(
     ensures numbers_after { numbers.new ≡ (ran_over state.old list.now numbers.old (store_of constants.old copies.old scratch.old tables.old)).numbers }
     ensures tables_after { store_of constants.new copies.new scratch.new tables.new ≡ (ran_over state.old list.now numbers.old (store_of constants.old copies.old scratch.old tables.old)).store }
 {
-    capi::list::kinchoyu_calls(state, list, numbers, constants, copies, scratch, tables)
+    answer_number(&capi::list::kinchoyu_calls(
+        state, list, numbers, constants, copies, scratch, tables,
+    ))
 }
 
 // Reads a listing, plans, opens, gives every section and finishes; hands back the plan. 20, then 10 for a
@@ -198,7 +202,7 @@ pub extern "C" fn kinchoyu_run(
     ensures plan_after { plan.new ≡ run_plan listing.now plan.old (store_of constants.old copies.old scratch.old tables.old) }
     ensures tables_after { store_of constants.new copies.new scratch.new tables.new ≡ run_left listing.now plan.old (store_of constants.old copies.old scratch.old tables.old) }
 {
-    capi::listed::kinchoyu_run(listing, plan, constants, copies, scratch, tables)
+    answer_number(&capi::listed::kinchoyu_run(listing, plan, constants, copies, scratch, tables))
 }
 
 // Reads a listing, writes the padded one to the front of `out` and its number of words to `count`. 20,
@@ -210,5 +214,5 @@ pub extern "C" fn kinchoyu_pad(listing: &[u64], out: &mut [u64], count: &mut [u6
     ensures out_after { out.new ≡ pad_out listing.now out.old count.old }
     ensures count_after { count.new ≡ pad_count listing.now out.old count.old }
 {
-    capi::padded::kinchoyu_pad(listing, out, count)
+    answer_number(&capi::padded::kinchoyu_pad(listing, out, count))
 }

@@ -17,7 +17,7 @@ use Rattle.capi.proofs.IntakeLaws.{PlanThere, cells_there, finish_there, progres
 use Rattle.claim.specs.Chain.{Kept, answer, chained}
 use Rattle.claim.specs.Statement.{Right, setting_for}
 use Rattle.columns.specs.declared.intake.Intake.{Intake}
-use Rattle.columns.specs.declared.intake.Taken.{Taken}
+use Rattle.columns.specs.Intake.{Taken}
 use Rattle.parameters.specs.Parameters.{parameter_words, parameters_at}
 use Rattle.encoding.specs.Encoding.{counts_from, intake_of, phase_at, plan_length, progress_length, progress_of, progressed, state_length, used_from}
 use Rattle.encoding.proofs.EncodingLaws.{state_read}

@@ -25,7 +25,7 @@ use Rattle.tree.specs.Plan.{words_number, plan_number, planned, plan_fault, plan
 use Rattle.tree.specs.PlanLaws.{planned_fault}
 use Rattle.tree.specs.SoundLaws.{path_kept, path_in}
 use Rattle.tree.specs.declared.plan.Plan.{Plan}
-use Rattle.tree.specs.declared.plan.TableId.{TableId}
+use Rattle.tree.specs.Answers.{TableId}
 use Rattle.pieces.specs.Setting.{Setting, counts_fit, stands}
 use Rattle.pieces.specs.Records.{read_by, rows_of, tables_of, first_fault, all_below}
 use Rattle.pieces.specs.Writing.{put, padded, put_lines}
@@ -48,7 +48,7 @@ use Rattle.stage.specs.Circuit.{calls, stage_number}
 use Rattle.listing.specs.Listing.{Words, whole, off, records, section, six_sections, read}
 use Rattle.stage.proofs.CircuitLaws.{answer-taken}
 use Rattle.stage.specs.Listed.{listed_answer, listed_left, listed_whole}
-use Rattle.stage.specs.declared.circuit.Staged.{Staged}
+use Rattle.stage.specs.Circuit.{Staged}
 use Rattle.octets.specs.Text.{places, decimal, fields}
 use Rattle.report.specs.Report.{digits_of, path_lines, column_lines, columns_there, report_lines}
 use Rattle.report.specs.ReportLaws.{report_whole}

@@ -16,14 +16,14 @@ use Rattle.selector.specs.Tree.{leaf, offer, offer_all, grown}
 use Rattle.parameters.specs.Parameters.{range_number, parameters_number}
 use Rattle.tree.specs.Plan.{zero_plan, words_number, plan_number, plan_answer}
 use Rattle.tree.specs.declared.plan.Plan.{Plan}
-use Rattle.tree.specs.declared.planning.Planned.{Planned}
+use Rattle.tree.specs.Answers.{Planned}
 use Rattle.pieces.specs.Setting.{Setting, Store, counts_fit, stands}
 use Rattle.pieces.specs.Records.{read_by, rows_of, first_fault, all_below}
 use Rattle.pieces.specs.Opening.{room_to_open, open_number, open_store, fresh}
 use Rattle.pieces.specs.Rows.{row_fault, rows_number}
 use Rattle.pieces.specs.Calls.{Call, rows, finishing, number, taken, run}
 use Rattle.columns.specs.Intake.{setting_of, open_answer, open_left}
-use Rattle.columns.specs.declared.intake.Taken.{Taken}
+use Rattle.columns.specs.Intake.{Taken}
 use Rattle.claim.specs.Chain.{Kept, answer, left}
 use Rattle.claim.specs.Statement.{held_of, setting_for, Opened}
 use Rattle.claim.proofs.Theorem.{claim}

@@ -19,9 +19,7 @@ use Rattle.columns.specs.declared.intake.Intake.{Intake}
 use Rattle.columns.specs.declared.take.Counts.{Counts}
 use Rattle.encoding.specs.Encoding.{counts_at, count_at, gates_from, intake_of, lookup_fits, lookup_there, marks_at, nodes_from, plan_at, plan_length, plan_of, state_length, tail_from}
 use Rattle.encoding.proofs.EncodingLaws.{plan-none, plan_other, plan-read, state_other, state_read}
-use Rattle.encoding.specs.declared.held.Held.{Held}
-use Rattle.encoding.specs.declared.held.Outlined.{Outlined}
-use Rattle.encoding.specs.Holding.{gates_in, held_at, held_with, marks_read, no_plan, nodes_in, outline_at, outlined_at}
+use Rattle.encoding.specs.Holding.{Held, Outlined, gates_in, held_at, held_with, marks_read, no_plan, nodes_in, outline_at, outlined_at}
 
 -- ---- what words hold that hold a plan
 pub record Plans (ws : List ℕ) (p : Outlined) : Type 0 where

@@ -100,6 +100,10 @@ lookup_there ws = lookup_fits (parameters_at ws).mode (parameters_at ws).width (
 unfoldable pub plan_of : List ℕ → Plan
 plan_of ws = pick (eqb (length ws) plan_length) (pick (lookup_there ws) (plan_at ws) zero_plan) zero_plan
 
+-- the five counts as words
+abbrev pub count_words : Counts → List ℕ
+count_words k = k.rows ∷ k.s_words ∷ k.cells ∷ k.tables ∷ k.table_rows ∷ []
+
 -- what a state has besides its plan, as words: the five counts, the marks, the phase
 abbrev pub progress_words : ℕ → ℕ → ℕ → ℕ → ℕ → List ℕ → ℕ → List ℕ
 progress_words rows words cells tables stacked used phase = (rows ∷ words ∷ cells ∷ tables ∷ stacked ∷ []) ++ (used ++ (phase ∷ []))

@@ -1,5 +1,5 @@
 -- What is read of the words of a plan and a state, without copying a plan.
-use Rattle.std.specs.Prelude.{ℕ, eqb, drop, length, replicate, take, false, true, List}
+use Rattle.std.specs.Prelude.{ℕ, Bool, eqb, drop, length, replicate, take, false, true, List, Option, Some, None}
 use Rattle.base.specs.Limits.{most_gates}
 use Rattle.base.specs.Pick.{pick}
 use Rattle.selector.specs.Gates.{gate_slots}
@@ -9,8 +9,6 @@ use Rattle.tree.specs.declared.plan.Outline.{Outline}
 use Rattle.columns.specs.Intake.{zero_intake}
 use Rattle.columns.specs.declared.take.Counts.{Counts}
 use Rattle.encoding.specs.Encoding.{counts_at, gates_from, lookup_there, marks_at, nodes_from, plan_at, plan_length, state_length}
-use Rattle.encoding.specs.declared.held.Held.{Held}
-use Rattle.encoding.specs.declared.held.Outlined.{Outlined}
 
 -- the words of gates and nodes among a plan's or a state's
 abbrev pub gates_in : List ℕ → List ℕ
@@ -26,9 +24,24 @@ outline_at ws = outline_of (plan_at ws)
 abbrev pub marks_read : List ℕ → List ℕ
 marks_read ws = pick (eqb (length ws) state_length) (marks_at ws) (replicate most_gates 0)
 
--- what the words of a plan hold
+-- what the words of a plan hold: whether there is one, and its outline
+pub record Outlined : Type 0 where
+  pub fits : Bool
+  pub outline : Outline
+
+-- the same of a state's words, with its counts
+pub record Held : Type 0 where
+  pub fits : Bool
+  pub outline : Outline
+  pub counts : Counts
+
 abbrev pub no_plan : Outlined
 no_plan = record { fits = false; outline = outline_of zero_plan }
+
+-- the outline that the code finds, or none
+abbrev pub outlined : Option Outline → Outlined
+outlined (Some o) = record { fits = true; outline = o }
+outlined None = no_plan
 
 abbrev pub outline_there : List ℕ → Outlined
 outline_there ws = pick (lookup_there ws) (record { fits = true; outline = outline_at ws }) no_plan

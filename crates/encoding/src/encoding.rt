@@ -1,8 +1,7 @@
 // Plans and states as words, in the order of their fields.
 ghost use Rattle.std.specs.Prelude.{◌≡◌};
-ghost use Rattle.parameters.specs.Lookup.{flag_of};
 ghost use Rattle.writer.specs.Hand.{handed};
-ghost use Rattle.encoding.specs.Encoding.{lookup_fits, marks_at, plan_words, progress_in, progressed};
+ghost use Rattle.encoding.specs.Encoding.{count_words, lookup_fits, marks_at, plan_words, progress_in, progressed};
 
 use columns::take::Counts;
 use parameters::parameters::PARAMETER_WORDS;
@@ -37,32 +36,24 @@ pub const PHASE_AT: usize = USED_FROM + MOST_GATES;
 pub const STATE_WORDS: usize = PHASE_AT + 1;
 
 // Whether some lookup mode has this number, width and flag.
+#[tactic(auto, unfolding(crate::specs::Encoding::lookup_fits))]
 pub(crate) fn lookup_fits(mode: u64, width: u64, flag: u64) -> bool
     ensures { result ≡ lookup_fits mode width flag }
 {
-    if 4 < mode {
-        return false;
-    }
-    if 1 < flag {
-        return false;
-    }
-    if mode == 0 {
-        if width == 0 {
-            return flag == 0;
-        }
-        return false;
-    }
-    true
+    mode <= 4 && flag <= 1 && (mode != 0 || width == 0 && flag == 0)
 }
 
-// The share flag as a word.
-fn flag_of(share: bool) -> u64
-    ensures { result ≡ flag_of share }
+// The counts as words: rows, S words, cells, tables and table rows.
+fn count_words(counts: Counts) -> [u64; COUNTS_LENGTH]
+    ensures { result ≡ count_words counts }
 {
-    if share {
-        return 1;
-    }
-    0
+    [
+        counts.rows,
+        counts.s_words,
+        counts.cells,
+        counts.tables,
+        counts.table_rows,
+    ]
 }
 
 // The words of a plan go to the front of a slice; one that is too short keeps all its words.
@@ -81,7 +72,7 @@ pub fn encode_plan(plan: Plan, words: &mut [u64])
         plan.variables,
         lookup.mode(),
         lookup.lookup_width(),
-        flag_of(lookup.share_table_id()),
+        u64::from(lookup.share_table_id()),
     ];
     put_words(&head, 0, words);
     let gates = plan.gates;
@@ -99,14 +90,7 @@ pub fn encode_progress(counts: Counts, used: Marks, words: &mut [u64])
     ensures { words.new ≡ progressed (progress_in counts used) words.old }
 {
     if STATE_WORDS <= words.len() {
-        let five = [
-            counts.rows,
-            counts.s_words,
-            counts.cells,
-            counts.tables,
-            counts.table_rows,
-        ];
-        put_words(&five, COUNTS_FROM, words);
+        put_words(&count_words(counts), COUNTS_FROM, words);
         put_words(&used, USED_FROM, words);
         words[PHASE_AT] = counts.phase;
     }
@@ -117,13 +101,7 @@ pub fn encode_counts(counts: Counts, words: &mut [u64])
     ensures { words.new ≡ progressed (progress_in counts (marks_at words.old)) words.old }
 {
     if STATE_WORDS <= words.len() {
-        let tally = [
-            counts.rows,
-            counts.s_words,
-            counts.cells,
-            counts.tables,
-            counts.table_rows,
-        ];
+        let tally = count_words(counts);
         put_words(&tally, COUNTS_FROM, words);
         words[PHASE_AT] = counts.phase;
     }

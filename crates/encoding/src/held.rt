@@ -2,7 +2,7 @@
 // lent to what is asked of a plan and of a state in parts.
 ghost use Rattle.std.specs.Prelude.{◌≡◌, ◌≤◌, length};
 ghost use Rattle.encoding.specs.Encoding.{counts_at, plan_length, state_length};
-ghost use Rattle.encoding.specs.Holding.{held_at, held_with, marks_read, no_plan, outline_there, outlined_at};
+ghost use Rattle.encoding.specs.Holding.{held_at, held_with, marks_read, outline_there, outlined, outlined_at};
 
 use crate::encoding::{
     COUNT_AT, COUNTS_FROM, PHASE_AT, PLAN_WORDS, STATE_WORDS, TAIL_FROM, USED_FROM, lookup_fits,
@@ -10,73 +10,50 @@ use crate::encoding::{
 use columns::take::{Counts, NEVER};
 use parameters::parameters::parameters_at;
 use selector::{MOST_GATES, Marks};
-use tree::plan::{Outline, Plan, Told};
-use writer::hand::hand;
+use tree::plan::{Outline, Told};
 
-// Whether the words are as many as a plan's, with some lookup mode's words among them, and then the outline of the
-// plan, else zeros.
-#[derive(Clone, Copy)]
-pub struct Outlined {
-    pub fits: bool,
-    pub outline: Outline,
-}
-
-// The same of a state's words, with its counts.
+// What words hold as a state: the outline of its plan, where there are as many words as a state has and some lookup
+// mode's among them; the counts, all 0 where there are not as many.
 #[derive(Clone, Copy)]
 pub struct Held {
-    pub fits: bool,
-    pub outline: Outline,
+    pub outline: Option<Outline>,
     pub counts: Counts,
 }
 
-// Words that hold no plan.
-fn no_plan() -> Outlined
-    ensures { result ≡ no_plan }
-{
-    Outlined {
-        fits: false,
-        outline: Plan::zero().outline(),
-    }
-}
-
-// What the words of a plan, or those in front of a state, hold.
-fn outline_at(words: &[u64]) -> Outlined
+// The outline that the words of a plan hold, or those in front of a state, with some lookup mode's words among them.
+fn outline_at(words: &[u64]) -> Option<Outline>
     requires { plan_length ≤ length words.now }
-    ensures { result ≡ outline_there words.now }
+    ensures { outlined result ≡ outline_there words.now }
 {
     let parameters = parameters_at(words);
-    if lookup_fits(parameters.mode, parameters.width, parameters.share) {
-        let lookup = parameters.lookup();
-        let told = Told {
-            degree: words[TAIL_FROM + 1],
-            constants: words[TAIL_FROM + 2],
-            factor: words[TAIL_FROM + 3],
-        };
-        let outline = Outline {
-            trace: parameters.trace,
-            copy: parameters.copy,
-            allowed: parameters.allowed,
-            specialised: parameters.specialised,
-            variables: parameters.variables,
-            lookup: lookup,
-            gate_count: words[COUNT_AT],
-            node_count: words[TAIL_FROM],
-            told: told,
-        };
-        return Outlined {
-            fits: true,
-            outline: outline,
-        };
+    if !lookup_fits(parameters.mode, parameters.width, parameters.share) {
+        return None;
     }
-    no_plan()
+    let lookup = parameters.lookup();
+    let told = Told {
+        degree: words[TAIL_FROM + 1],
+        constants: words[TAIL_FROM + 2],
+        factor: words[TAIL_FROM + 3],
+    };
+    Some(Outline {
+        trace: parameters.trace,
+        copy: parameters.copy,
+        allowed: parameters.allowed,
+        specialised: parameters.specialised,
+        variables: parameters.variables,
+        lookup,
+        gate_count: words[COUNT_AT],
+        node_count: words[TAIL_FROM],
+        told,
+    })
 }
 
-// What words hold as a plan.
-pub fn outlined_at(words: &[u64]) -> Outlined
-    ensures { result ≡ outlined_at words.now }
+// The outline that words hold as a plan.
+pub fn outlined_at(words: &[u64]) -> Option<Outline>
+    ensures { outlined result ≡ outlined_at words.now }
 {
     if words.len() != PLAN_WORDS {
-        return no_plan();
+        return None;
     }
     outline_at(words)
 }
@@ -96,21 +73,9 @@ fn counts_at(words: &[u64]) -> Counts
     }
 }
 
-// A plan with counts.
-fn held_with(plan: Outlined, counts: Counts) -> Held
-    ensures { result ≡ held_with plan counts }
-{
-    let outline = plan.outline;
-    Held {
-        fits: plan.fits,
-        outline: outline,
-        counts: counts,
-    }
-}
-
 // What words hold as a state.
 pub fn held_at(words: &[u64]) -> Held
-    ensures { result ≡ held_at words.now }
+    ensures { held_with (outlined result.outline) result.counts ≡ held_at words.now }
 {
     if words.len() != STATE_WORDS {
         let none = Counts {
@@ -121,9 +86,15 @@ pub fn held_at(words: &[u64]) -> Held
             table_rows: 0,
             phase: NEVER,
         };
-        return held_with(no_plan(), none);
+        return Held {
+            outline: None,
+            counts: none,
+        };
     }
-    held_with(outline_at(words), counts_at(words))
+    Held {
+        outline: outline_at(words),
+        counts: counts_at(words),
+    }
 }
 
 // The marks of a state's words; of another number of words zeros.
@@ -132,7 +103,7 @@ pub fn marks_of(words: &[u64]) -> Marks
 {
     let mut used = [0; MOST_GATES];
     if words.len() == STATE_WORDS {
-        hand(&words[USED_FROM..PHASE_AT], &mut used);
+        used.copy_from_slice(&words[USED_FROM..PHASE_AT]);
     }
     used
 }

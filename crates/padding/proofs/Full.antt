@@ -24,7 +24,7 @@ use Rattle.stage.specs.Circuit.{stage_answer}
 use Rattle.stage.proofs.CircuitLaws.{answer_refused, answer-taken, number-sections}
 use Rattle.stage.specs.Listed.{listed_answer, listed_left, listed_whole}
 use Rattle.stage.proofs.Accepted.{given, listed_right}
-use Rattle.stage.specs.declared.circuit.Staged.{Staged}
+use Rattle.stage.specs.Circuit.{Staged}
 use Rattle.writer.specs.Hand.{hand_answer}
 use Rattle.writer.proofs.HandLaws.{answer_other, answer-zero}
 use Rattle.padding.specs.Padding.{length_of, with_trace, padded_setting, padded, pad_number, pad_by, pad_left_by, pad_answer, pad_left}

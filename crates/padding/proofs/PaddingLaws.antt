@@ -36,7 +36,7 @@ use Rattle.padding.specs.Lengths.{one_in_range, power_in_range}
 use Rattle.padding.specs.Traces.{other_number}
 use Rattle.padding.specs.Parts.{Small, Fitting, laid}
 use Rattle.padding.specs.Judging.{six_of}
-use Rattle.writer.specs.declared.hand.Wrote.{Wrote}
+use Rattle.writer.specs.Hand.{Wrote}
 
 -- ---- a circuit that is not refused
 pub record Good (w : Words) : Type 0 where

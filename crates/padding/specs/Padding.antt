@@ -21,7 +21,7 @@ use Rattle.listing.specs.Listing.{Words, Reading, whole, refused, read}
 use Rattle.listing.specs.Writing.{written}
 use Rattle.writer.specs.Besides.{besides}
 use Rattle.writer.specs.Hand.{hand_answer, hand_left}
-use Rattle.writer.specs.declared.hand.Wrote.{Wrote}
+use Rattle.writer.specs.Hand.{Wrote}
 
 -- "An unpadded circuit's N is 0..65,536, the height of its S and cell columns": the given N
 abbrev pub given : Words → ℕ

@@ -1,6 +1,6 @@
 // What is asked of an unpadded circuit before a word is written: the length, the first kind 1 gate
 // and the number.
-ghost use Rattle.std.specs.Prelude.{◌≡◌, ◌^◌, ◌≤◌, length, leb};
+ghost use Rattle.std.specs.Prelude.{◌≡◌, ◌<◌, ◌^◌, ◌≤◌, length, leb, IfSome};
 ghost use Rattle.base.specs.Each.{Each};
 ghost use Rattle.base.specs.Exponent.{exponent};
 ghost use Rattle.base.specs.Pick.{pick};
@@ -10,32 +10,22 @@ ghost use Rattle.pieces.specs.Records.{rows_of, tables_of};
 ghost use Rattle.pieces.specs.RecordLaws.{Whole};
 ghost use Rattle.pieces.specs.Tables.{sum_rows};
 ghost use Rattle.padding.specs.Padding.{filler_of, with_trace};
-ghost use Rattle.padding.specs.Judging.{Capped, Judging, six_of};
+ghost use Rattle.selector.specs.Refusals.{count_of_gates};
+ghost use Rattle.padding.specs.Judging.{Capped, Judging, gate_or, six_of};
 
 use base::{greater, power_above};
 use columns::sections::unpadded_number;
 use labels::LONGEST_TRACE;
 use parameters::parameters::{Parameters, parameters_at};
+use refusal::Refusal;
 use selector::GATE_WORDS;
 use tree::planning::plan;
 
-// 0, or the number of a refusal; where it is 0 also the length and the gate of the missing rows.
+// How an unpadded circuit is padded: its length then, and the gate of the missing rows.
 #[derive(Clone, Copy)]
 pub(crate) struct Judged {
-    pub number: u64,
     pub length: u64,
     pub gate: u64,
-}
-
-// A refusal.
-fn refused(number: u64) -> Judged
-    ensures { (result.number ≡ number) × (result.length ≡ 0) × (result.gate ≡ 0) }
-{
-    Judged {
-        number: number,
-        length: 0,
-        gate: 0,
-    }
 }
 
 // The rows of all tables together, or more than 65,536 where they are more: the sum itself could
@@ -46,30 +36,30 @@ fn table_rows(tables: &[u64]) -> u64
 {
     let mut sum: u64 = 0;
     let mut i: usize = 0;
+    // the next table stands as many words on as this one has
     while i < tables.len() {
         let n = tables[i + 1];
         if LONGEST_TRACE - sum < n {
             return LONGEST_TRACE + 1;
         }
-        sum = sum + n;
-        i = i + (2 + (tables[i] * n) as usize);
+        sum += n;
+        i += 2 + (tables[i] * n) as usize;
     }
     sum
 }
 
-// The first kind 1 gate, or the number of gates where there is none.
-fn filler_gate(gates: &[u64]) -> u64
-    ensures { result ≡ filler_of gates.now }
+// The first kind 1 gate.
+fn filler_gate(gates: &[u64]) -> Option<u64>
+    ensures value { gate_or (count_of_gates gates.now) result ≡ filler_of gates.now }
+    ensures listed { IfSome result (λ gate. gate < count_of_gates gates.now) }
 {
     let many = gates.len() / GATE_WORDS;
-    let mut g: usize = 0;
-    while g < many {
+    for g in 0..many {
         if gates[g * GATE_WORDS] == 1 {
-            return g as u64;
+            return Some(g as u64);
         }
-        g = g + 1;
     }
-    many as u64
+    None
 }
 
 // The smallest power of two not below a number; 1, which is in its range, where that passes 65,536.
@@ -87,18 +77,12 @@ fn with_trace(parameters: Parameters, trace: u64) -> Parameters
     ensures { result ≡ with_trace trace parameters }
 {
     Parameters {
-        trace: trace,
-        copy: parameters.copy,
-        allowed: parameters.allowed,
-        specialised: parameters.specialised,
-        variables: parameters.variables,
-        mode: parameters.mode,
-        width: parameters.width,
-        share: parameters.share,
+        trace,
+        ..parameters
     }
 }
 
-// The circuit's number before a word is written, its length and the gate of its missing rows.
+// How the circuit is padded, or its refusal before a word is written.
 pub(crate) fn judge(
     eight: &[u64],
     gates: &[u64],
@@ -107,7 +91,7 @@ pub(crate) fn judge(
     s_words: &[u64],
     cells: &[u64],
     tables: &[u64],
-) -> Judged
+) -> Result<Judged, Refusal>
     requires eight_len { (length eight.now ≡ parameter_words) × (many ≡ length (rows_of rows.now)) × (many ≤ length rows.now) }
     requires each { Each Whole (tables_of tables.now) }
     ensures { Judging (six_of eight.now gates.now rows.now s_words.now cells.now tables.now) result }
@@ -115,25 +99,15 @@ pub(crate) fn judge(
     let parameters = parameters_at(eight);
     let given = parameters.trace;
     if LONGEST_TRACE < given {
-        return refused(1);
+        return Err(Refusal::Parameter);
     }
     let least = greater(many + 1, greater(table_rows(tables), given));
     let length = power_or_one(least);
-    let planned = plan(with_trace(parameters, length), gates);
-    if planned.number != 0 {
-        return refused(planned.number);
-    }
-    let gate = filler_gate(gates);
-    if (gates.len() / GATE_WORDS) as u64 <= gate {
-        return refused(21);
-    }
+    let plan = plan(with_trace(parameters, length), gates)?;
+    let gate = filler_gate(gates).ok_or(Refusal::NoMarker)?;
     if LONGEST_TRACE < least {
-        return refused(22);
+        return Err(Refusal::TooLong);
     }
-    let number = unpadded_number(planned.plan, given, gate, rows, s_words, cells, tables);
-    Judged {
-        number: number,
-        length: length,
-        gate: gate,
-    }
+    unpadded_number(plan, given, gate, rows, s_words, cells, tables)?;
+    Ok(Judged { length, gate })
 }

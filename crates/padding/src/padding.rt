@@ -2,7 +2,8 @@
 ghost use Rattle.std.specs.Prelude.{◌≡◌, ◌+◌, ltb};
 ghost use Rattle.listing.specs.Listing.{read, whole};
 ghost use Rattle.listing.specs.Places.{words_at};
-ghost use Rattle.writer.specs.Hand.{hand_answer, hand_left};
+ghost use Rattle.refusal.specs.Refusal.{answer_number, answer_or};
+ghost use Rattle.writer.specs.Hand.{hand_answer, hand_left, hand_number};
 ghost use Rattle.writer.specs.Put.{put};
 ghost use Rattle.listing.specs.Writing.{written};
 ghost use Rattle.padding.specs.Padding.{padded, pad_number, pad_answer, pad_left};
@@ -13,23 +14,13 @@ use crate::judging::judge;
 use crate::parts::{put_column_section, put_counted, put_parameters, put_row_section};
 use cs::Variable;
 use listing::cursor::{part_of, sections_of};
-use listing::sections::{Listing, Sections};
+use listing::sections::Sections;
 use parameters::parameters::PARAMETER_WORDS;
+use refusal::Refusal;
 use selector::GATE_WORDS;
-use writer::hand::Wrote;
 
 // The count of the rows stands behind the parameters and the gates, each after its count.
 const ROWS_COUNT_AFTER: usize = PARAMETER_WORDS + 2;
-
-// A refusal.
-fn refused(number: u64) -> Wrote
-    ensures { (result.number ≡ number) × (result.words ≡ 0) }
-{
-    Wrote {
-        number: number,
-        words: 0,
-    }
-}
 
 // The padded listing at the front of a buffer that has room for it.
 fn write_padded(
@@ -78,16 +69,14 @@ fn words_more(long: u64, many: u64, eight: &[u64]) -> usize
 fn too_short(room: usize, words: usize, more: usize) -> bool
     ensures { result ≡ ltb room (words + more) }
 {
-    if room < words {
-        return true;
-    }
-    room - words < more
+    room < words || room - words < more
 }
 
 // The circuit whose sections stand at these places of the words.
-fn pad_parts(words: &[u64], sections: Sections, out: &mut [u64]) -> Wrote
+fn pad_parts(words: &[u64], sections: Sections, out: &mut [u64]) -> Result<u64, Refusal>
     requires { read words.now ≡ whole (words_at words.now sections) }
-    ensures value { result ≡ hand_answer (pad_number (words_at words.now sections)) (written (padded (words_at words.now sections))) out.old }
+    ensures number { answer_number result ≡ hand_number (pad_number (words_at words.now sections)) (written (padded (words_at words.now sections))) out.old }
+    ensures many { answer_or 0 result ≡ (hand_answer (pad_number (words_at words.now sections)) (written (padded (words_at words.now sections))) out.old).words }
     ensures out_after { out.new ≡ hand_left (pad_number (words_at words.now sections)) (written (padded (words_at words.now sections))) out.old }
 {
     let eight = part_of(words, sections.parameters.start, sections.parameters.len);
@@ -97,13 +86,10 @@ fn pad_parts(words: &[u64], sections: Sections, out: &mut [u64]) -> Wrote
     let cells = part_of(words, sections.cells.start, sections.cells.len);
     let tables = part_of(words, sections.tables.start, sections.tables.len);
     let many = words[ROWS_COUNT_AFTER + gates.len()];
-    let judged = judge(eight, gates, rows, many, s_words, cells, tables);
-    if judged.number != 0 {
-        return refused(judged.number);
-    }
+    let judged = judge(eight, gates, rows, many, s_words, cells, tables)?;
     let more = words_more(judged.length, many, eight);
     if too_short(out.len(), words.len(), more) {
-        return refused(10);
+        return Err(Refusal::ShortBuffer);
     }
     let tables_at = words.len() - 1 - tables.len();
     write_padded(
@@ -119,20 +105,15 @@ fn pad_parts(words: &[u64], sections: Sections, out: &mut [u64]) -> Wrote
         tables,
         out,
     );
-    Wrote {
-        number: 0,
-        words: (words.len() + more) as u64,
-    }
+    Ok((words.len() + more) as u64)
 }
 
-// Reads a listing and writes the padded one to the front of `out`. A refusal writes nothing.
-pub fn pad(words: &[u64], out: &mut [u64]) -> Wrote
-    ensures value { result ≡ pad_answer words.now out.old }
+// Reads a listing and writes the padded one to the front of `out`; answers how many words it has. A refusal writes nothing.
+pub fn pad(words: &[u64], out: &mut [u64]) -> Result<u64, Refusal>
+    ensures number { answer_number result ≡ (pad_answer words.now out.old).number }
+    ensures many { answer_or 0 result ≡ (pad_answer words.now out.old).words }
     ensures out_after { out.new ≡ pad_left words.now out.old }
 {
-    let listing = sections_of(words);
-    match listing {
-        Listing::Whole(sections) => pad_parts(words, sections, out),
-        Listing::Refused(number) => refused(number),
-    }
+    let sections = sections_of(words)?;
+    pad_parts(words, sections, out)
 }

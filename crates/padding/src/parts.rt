@@ -34,10 +34,8 @@ pub(crate) fn put_rows(gate: u64, many: usize, at: usize, out: &mut [u64]) -> us
     ensures { (result ≡ at + 2 * many) × (out.new ≡ put at (fillers many gate) out.old) }
 {
     let record = [gate, 0];
-    let mut i: usize = 0;
-    while i < many {
+    for i in 0..many {
         put_words(&record, at + 2 * i, out);
-        i = i + 1;
     }
     at + 2 * many
 }
@@ -56,12 +54,10 @@ pub(crate) fn put_columns(
     requires long_le_longest_trace { (long ≤ longest_trace) × (columns ≤ most_columns) }
     ensures { (result ≡ at + columns * long) × (out.new ≡ put at (stretched fill height long columns words.now) out.old) }
 {
-    let mut c: usize = 0;
-    while c < columns {
+    for c in 0..columns {
         let start = at + c * long;
         put_words(part_of(words, c * height, height), start, out);
         put_same(fill, long - height, start + height, out);
-        c = c + 1;
     }
     at + columns * long
 }

@@ -9,7 +9,7 @@ use Rattle.parameters.specs.declared.parameters.Parameters.{Parameters}
 use Rattle.pieces.specs.Setting.{Store}
 use Rattle.listing.specs.Listing.{Words, Reading, whole, refused, read}
 use Rattle.stage.specs.Circuit.{refused_by, stage_answer, stage_left}
-use Rattle.stage.specs.declared.circuit.Staged.{Staged}
+use Rattle.stage.specs.Circuit.{Staged}
 
 -- the circuit of a listing's six sections
 abbrev pub words_answer : Words → Store → Staged

@@ -13,8 +13,7 @@ use Rattle.columns.specs.Given.{intake_in, given_of, marked_of, counted, remarke
 use Rattle.columns.specs.GivenLaws.{bare, words_whole, cells_whole, tables_whole, rows_whole, finish_whole}
 use Rattle.columns.specs.declared.intake.Intake.{Intake}
 use Rattle.columns.specs.declared.take.Counts.{Counts}
-use Rattle.columns.specs.declared.take.Given.{Given}
-use Rattle.columns.specs.declared.take.Marked.{Marked}
+use Rattle.columns.specs.Given.{Given, Marked}
 use Rattle.claim.specs.Chain.{Kept, next}
 use Rattle.claim.specs.Keeping.{keeping, by_rows, by_words, by_cells, by_tables, by_finishing}
 

@@ -3,42 +3,27 @@
 ghost use Rattle.std.specs.Prelude.{◌≡◌};
 ghost use Rattle.columns.specs.Intake.{state_in, setting_of, store_of, with_state};
 ghost use Rattle.columns.specs.Sections.{sections_number};
+ghost use Rattle.refusal.specs.Refusal.{answer_number};
 ghost use Rattle.claim.specs.Chain.{chained};
 ghost use Rattle.claim.specs.Keeping.{keeping};
-ghost use Rattle.stage.specs.Circuit.{calls, refused_by, stage_answer, stage_left};
+ghost use Rattle.stage.specs.Circuit.{calls, staged_by, stage_answer, stage_left};
 ghost use Rattle.stage.specs.Planned.{planned_left};
 
 use columns::intake::Intake;
 use columns::sections::sections_number;
 use columns::take::{Counts, take_cells, take_finish, take_rows, take_s_words, take_tables};
 use parameters::parameters::Parameters;
+use refusal::Refusal;
 use selector::Marks;
 use tree::plan::Plan;
 use tree::planning::plan;
 
-// 0 or a refusal number, and the plan; after a refusal a plan of zeros.
-#[derive(Clone, Copy)]
-pub struct Staged {
-    pub number: u64,
-    pub plan: Plan,
-}
-
-// A refusal.
-pub(crate) fn refused(number: u64) -> Staged
-    ensures { result ≡ refused_by number }
-{
-    Staged {
-        number: number,
-        plan: Plan::zero(),
-    }
-}
-
-// Every call after opening, each on the counts that the call before it gave back; finishing gets the
-// marks that the rows made.
+// Every call after opening, each on the counts that the call before it left; finishing gets the
+// marks that the rows made. A refused call changes nothing, and the calls after it are made all the same.
 fn give_sections(
     plan: Plan,
-    counts: Counts,
-    marks: Marks,
+    mut counts: Counts,
+    mut used: Marks,
     rows: &[u64],
     s_words: &[u64],
     cells: &[u64],
@@ -48,21 +33,18 @@ fn give_sections(
     scratch: &mut [u64],
     tables: &mut [u64],
 )
-    ensures { store_of constants.new copies.new scratch.new tables.new ≡ (chained (calls rows.now s_words.now cells.now table_words.now) (keeping (with_state plan (state_in counts marks)) constants.old copies.old scratch.old tables.old)).store }
+    ensures { store_of constants.new copies.new scratch.new tables.new ≡ (chained (calls rows.now s_words.now cells.now table_words.now) (keeping (with_state plan (state_in counts used)) constants.old copies.old scratch.old tables.old)).store }
 {
-    let outline = plan.outline();
-    let gates = plan.gates;
-    let nodes = plan.nodes;
-    let told = take_rows(outline, &gates, &nodes, counts, marks, rows, constants);
-    let used = told.used;
-    let told = take_s_words(outline, &gates, &nodes, told.counts, s_words, constants);
-    let told = take_cells(outline, &gates, &nodes, told.counts, cells, copies, scratch);
-    let told = take_tables(outline, &gates, &nodes, told.counts, table_words, tables);
-    take_finish(outline, &gates, &nodes, told.counts, used, copies, scratch);
+    let parts = plan.parts();
+    let _ = take_rows(parts, &mut counts, &mut used, rows, constants);
+    let _ = take_s_words(parts, &mut counts, s_words, constants);
+    let _ = take_cells(parts, &mut counts, cells, copies, scratch);
+    let _ = take_tables(parts, &mut counts, table_words, tables);
+    let _ = take_finish(parts, &mut counts, &used, copies, scratch);
 }
 
-// Opening and every later call, each on the state that the call before it gave back, unless one of
-// them would be refused: then its number. It is not inlined, so that planning's room on the stack is not beside its own.
+// Opening and every later call, each on the state that the call before it left, unless one of
+// them would be refused: then its refusal. It is not inlined, so that planning's room on the stack is not beside its own.
 #[inline(never)]
 fn run_planned(
     plan: Plan,
@@ -74,11 +56,11 @@ fn run_planned(
     copies: &mut [u64],
     scratch: &mut [u64],
     tables: &mut [u64],
-) -> u64
-    ensures value { result ≡ sections_number (setting_of plan) (store_of constants.old copies.old scratch.old tables.old) rows.now s_words.now cells.now table_words.now }
+) -> Result<(), Refusal>
+    ensures value { answer_number result ≡ sections_number (setting_of plan) (store_of constants.old copies.old scratch.old tables.old) rows.now s_words.now cells.now table_words.now }
     ensures tables_after { store_of constants.new copies.new scratch.new tables.new ≡ planned_left plan rows.now s_words.now cells.now table_words.now (store_of constants.old copies.old scratch.old tables.old) }
 {
-    let number = sections_number(
+    sections_number(
         plan,
         rows,
         s_words,
@@ -88,17 +70,13 @@ fn run_planned(
         copies,
         scratch,
         tables,
-    );
-    if number != 0 {
-        return number;
-    }
-    let opened = Intake::open(plan, constants, copies, scratch, tables);
-    let state = opened.state;
-    let marks = state.used;
+    )?;
+    let state = Intake::open(plan, constants, copies, scratch, tables)?;
+    let used = state.used;
     give_sections(
         state.plan,
         state.counts,
-        marks,
+        used,
         rows,
         s_words,
         cells,
@@ -108,10 +86,10 @@ fn run_planned(
         scratch,
         tables,
     );
-    0
+    Ok(())
 }
 
-// Plans, opens, gives every section as one piece and finishes.
+// Plans, opens, gives every section as one piece and finishes; hands back the plan.
 pub fn run_sections(
     parameters: Parameters,
     gates: &[u64],
@@ -123,16 +101,12 @@ pub fn run_sections(
     copies: &mut [u64],
     scratch: &mut [u64],
     tables: &mut [u64],
-) -> Staged
-    ensures value { result ≡ stage_answer parameters gates.now rows.now s_words.now cells.now table_words.now (store_of constants.old copies.old scratch.old tables.old) }
+) -> Result<Plan, Refusal>
+    ensures value { staged_by result ≡ stage_answer parameters gates.now rows.now s_words.now cells.now table_words.now (store_of constants.old copies.old scratch.old tables.old) }
     ensures tables_after { store_of constants.new copies.new scratch.new tables.new ≡ stage_left parameters gates.now rows.now s_words.now cells.now table_words.now (store_of constants.old copies.old scratch.old tables.old) }
 {
-    let planned = plan(parameters, gates);
-    if planned.number != 0 {
-        return refused(planned.number);
-    }
-    let plan = planned.plan;
-    let refusal = run_planned(
+    let plan = plan(parameters, gates)?;
+    run_planned(
         plan,
         rows,
         s_words,
@@ -142,12 +116,6 @@ pub fn run_sections(
         copies,
         scratch,
         tables,
-    );
-    if refusal != 0 {
-        return refused(refusal);
-    }
-    Staged {
-        number: 0,
-        plan: plan,
-    }
+    )?;
+    Ok(plan)
 }

@@ -2,12 +2,15 @@
 ghost use Rattle.std.specs.Prelude.{◌≡◌};
 ghost use Rattle.listing.specs.Places.{words_at};
 ghost use Rattle.columns.specs.Intake.{store_of};
+ghost use Rattle.stage.specs.Circuit.{staged_by};
 ghost use Rattle.stage.specs.Listed.{words_answer, words_left, listed_answer, listed_left};
 
-use crate::circuit::{Staged, refused, run_sections};
+use crate::circuit::run_sections;
 use listing::cursor::{part_of, sections_of};
-use listing::sections::{Listing, Sections};
+use listing::sections::Sections;
 use parameters::parameters::parameters_at;
+use refusal::Refusal;
+use tree::plan::Plan;
 
 // The circuit whose sections stand at these places of the words.
 fn run_parts(
@@ -17,8 +20,8 @@ fn run_parts(
     copies: &mut [u64],
     scratch: &mut [u64],
     tables: &mut [u64],
-) -> Staged
-    ensures value { result ≡ words_answer (words_at words.now sections) (store_of constants.old copies.old scratch.old tables.old) }
+) -> Result<Plan, Refusal>
+    ensures value { staged_by result ≡ words_answer (words_at words.now sections) (store_of constants.old copies.old scratch.old tables.old) }
     ensures tables_after { store_of constants.new copies.new scratch.new tables.new ≡ words_left (words_at words.now sections) (store_of constants.old copies.old scratch.old tables.old) }
 {
     let eight = sections.parameters;
@@ -48,13 +51,10 @@ pub fn run_listing(
     copies: &mut [u64],
     scratch: &mut [u64],
     tables: &mut [u64],
-) -> Staged
-    ensures value { result ≡ listed_answer words.now (store_of constants.old copies.old scratch.old tables.old) }
+) -> Result<Plan, Refusal>
+    ensures value { staged_by result ≡ listed_answer words.now (store_of constants.old copies.old scratch.old tables.old) }
     ensures tables_after { store_of constants.new copies.new scratch.new tables.new ≡ listed_left words.now (store_of constants.old copies.old scratch.old tables.old) }
 {
-    let listing = sections_of(words);
-    match listing {
-        Listing::Whole(sections) => run_parts(words, sections, constants, copies, scratch, tables),
-        Listing::Refused(number) => refused(number),
-    }
+    let sections = sections_of(words)?;
+    run_parts(words, sections, constants, copies, scratch, tables)
 }

@@ -1,7 +1,7 @@
 -- `list::kinchoyu_calls` meets its contract: the list is run over the words of the state, which are written where they are as many as a state has.
 use Rattle.std.proofs.Common.{◌∙◌, ap}
 use Rattle.columns.specs.Intake.{store_of}
-use Rattle.columns.specs.declared.take.Marked.{Marked}
+use Rattle.columns.specs.Given.{Marked}
 use Rattle.capi.specs.Calls.{ran_over}
 use Rattle.capi.specs.CallsLaws.{list_given, list_kept}
 use Rattle.capi.specs.Intake.{marked_after}

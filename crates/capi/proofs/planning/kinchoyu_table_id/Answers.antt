@@ -2,7 +2,7 @@
 use Rattle.std.proofs.Common.{◌∙◌, ◌≡◌, ap, sym, arith}
 use Rattle.tree.specs.Plan.{plan_fault, table_id_answer}
 use Rattle.tree.specs.PlanLaws.{zero_fault}
-use Rattle.tree.specs.declared.plan.TableId.{TableId}
+use Rattle.tree.specs.Answers.{TableId}
 use Rattle.encoding.specs.Encoding.{plan_of}
 use Rattle.encoding.proofs.HeldLaws.{Plans, plans, plans_none}
 use Rattle.writer.specs.Hand.{hand_left, hand_number}

@@ -7,7 +7,7 @@ use Rattle.parameters.specs.Parameters.{parameters_at}
 use Rattle.parameters.specs.declared.parameters.Parameters.{Parameters}
 use Rattle.selector.specs.Refusals.{count_of_gates}
 use Rattle.tree.specs.Plan.{plan_number, planned, plan_answer}
-use Rattle.tree.specs.declared.planning.Planned.{Planned}
+use Rattle.tree.specs.Answers.{Planned}
 use Rattle.pieces.specs.Records.{rows_of, tables_of}
 use Rattle.pieces.specs.Tables.{sum_rows}
 use Rattle.columns.specs.Intake.{setting_of}

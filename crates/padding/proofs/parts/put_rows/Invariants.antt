@@ -7,5 +7,3 @@ use Rattle.padding.proofs.parts.put_rows.Given as goal
 abbrev pub invariant-loop-i : goal.invariant-loop-i
 invariant-loop-i l = (l.i ≤ l.many) × (l.out ≡ put l.at (fillers l.i l.gate) l.initial.out)
 
-abbrev pub decreases-loop-i : goal.decreases-loop-i
-decreases-loop-i l = l.many - l.i

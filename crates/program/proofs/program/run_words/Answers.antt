@@ -3,7 +3,7 @@ use Rattle.std.proofs.Common.{◌≡◌, sym, ap, ◌∙◌, ℕ}
 use Rattle.octets.specs.Text.{sink, put}
 use Rattle.report.specs.Report.{refused_line}
 use Rattle.stage.specs.Listed.{listed_answer}
-use Rattle.stage.specs.declared.circuit.Staged.{Staged}
+use Rattle.stage.specs.Circuit.{Staged}
 use Rattle.program.specs.Program.{lent}
 use Rattle.program.specs.ProgramLaws.{printed_refused, printed_by}
 use Rattle.program.proofs.program.run_words.Goals as goal

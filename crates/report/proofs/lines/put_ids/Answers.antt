@@ -1,7 +1,7 @@
 -- `report::lines::put_ids` meets its contract: the code makes the definition's test.
 use Rattle.std.proofs.Common.{ℕ, ◌<◌, ◌≤◌, ltb, ◌≡◌, sym, ap, ◌∙◌, List, [], ◌++◌, arith, lt-ltb, le-ltb}
 use Rattle.base.specs.Pick.{pick, pick_yes, pick_no}
-use Rattle.tree.specs.declared.plan.TableId.{TableId}
+use Rattle.tree.specs.Answers.{TableId}
 use Rattle.octets.specs.Text.{sink, put, field}
 use Rattle.octets.specs.TextLaws.{then}
 use Rattle.tree.specs.Plan.{table_id_answer}

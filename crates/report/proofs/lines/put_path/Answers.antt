@@ -5,7 +5,7 @@ use Rattle.octets.specs.TextLaws.{then}
 use Rattle.tree.specs.Plan.{plan_selector}
 use Rattle.tree.specs.Selection.{selector_of}
 use Rattle.tree.specs.SoundLaws.{path_answers}
-use Rattle.tree.specs.declared.plan.PathAnswer.{PathAnswer}
+use Rattle.tree.specs.Answers.{PathAnswer}
 use Rattle.report.specs.Report.{newline, path_name, selector_field}
 use Rattle.report.proofs.lines.put_path.Goals as goal
 

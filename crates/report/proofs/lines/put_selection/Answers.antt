@@ -3,7 +3,7 @@ use Rattle.std.proofs.Common.{◌∙◌, ap, refl, sym}
 use Rattle.base.specs.Digits.{Spelled, digits, digits-many}
 use Rattle.octets.specs.Text.{put, sink}
 use Rattle.tree.specs.Selection.{selector_of}
-use Rattle.tree.specs.declared.selection.Selection.{Selection}
+use Rattle.tree.specs.Selection.{Selection}
 use Rattle.report.specs.Report.{selector_field}
 use Rattle.report.proofs.lines.put_selection.Goals as goal
 

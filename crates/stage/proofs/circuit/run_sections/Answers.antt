@@ -2,13 +2,13 @@
 use Rattle.std.proofs.Common.{◌≡◌, sym, ap, ◌∙◌, ◌≢◌, ℕ}
 use Rattle.tree.specs.Plan.{plan_number, planned}
 use Rattle.tree.specs.declared.plan.Plan.{Plan}
-use Rattle.tree.specs.declared.planning.Planned.{Planned}
+use Rattle.tree.specs.Answers.{Planned}
 use Rattle.columns.specs.Intake.{setting_of, store_of}
 use Rattle.columns.specs.Sections.{sections_number}
 use Rattle.stage.specs.Circuit.{stage_number, stage_left}
 use Rattle.stage.specs.Planned.{planned_left}
 use Rattle.stage.proofs.CircuitLaws.{number_planning, number-sections, answer_refused, answer-taken, left-planned}
-use Rattle.stage.specs.declared.circuit.Staged.{Staged}
+use Rattle.stage.specs.Circuit.{Staged}
 use Rattle.stage.proofs.circuit.run_sections.Goals as goal
 
 abbrev staged : ℕ → Plan → Staged
