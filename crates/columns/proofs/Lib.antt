@@ -4,3 +4,6 @@ pub mod RowLoop
 pub mod StageLoop
 pub mod Parts
 pub mod TableLoop
+pub mod Tested
+pub mod Puts
+pub mod Standing

@@ -18,10 +18,14 @@ use Rattle.pieces.specs.Rows.{Gates, gates_of, row_fault, rows_fault, marked}
 use Rattle.pieces.specs.RecordLaws.{Rest, fault_here, fault_later, read_fuel, rest_whole, rest_done, rest-front}
 use Rattle.pieces.proofs.FaultLaws.{RowFine, Alike, row_good, rows_alike}
 use Rattle.pieces.proofs.LineLaws.{marks_turn, marks_done}
-use Rattle.tree.specs.Plan.{gate_rows_answer, plan_fault, plan_path}
+use Rattle.tree.specs.Answers.{rows_told}
+use Rattle.tree.specs.Plan.{gate_rows_answer, gate_rows_of, no_gate_rows, plan_fault, plan_path}
 use Rattle.tree.specs.SoundLaws.{sound, gate-words, gates-many}
 use Rattle.tree.specs.declared.gate_rows.GateRows.{GateRows}
 use Rattle.tree.specs.declared.plan.Plan.{Plan}
+use Rattle.refusal.specs.Refusal.{refusal_number}
+use Rattle.refusal.specs.declared.Refusal.{Refusal}
+use Rattle.refusal.proofs.Passing.{refusal_nonzero}
 use Rattle.columns.specs.Intake.{setting_of}
 use Rattle.columns.specs.Placed.{told_by, Spells, Fits}
 
@@ -110,7 +114,7 @@ marked_bar : (t : Bool) → eqb (pick t 1 0) 1 ≡ t
 marked_bar true = refl
 marked_bar false = refl
 
-pub gates-of : (q : Plan) (r : GateRows) → plan_fault q ≡ 0 → r ≡ gate_rows_answer q → GatesOf q r
+pub gates-of : (q : Plan) (r : GateRows) → plan_fault q ≡ 0 → r ≡ rows_told (gate_rows_answer q) → GatesOf q r
 gates-of q r e a =
     let w = gate-words q e r a in
     let m = gates-many q e r a in
@@ -121,16 +125,31 @@ gates-of q r e a =
       room = record { fits = λ g h. let k = listed g h in omega (arith, (w g k).path.steps_are, (w g k).own, (sound q e).fits g k) };
     }
 
--- its number is 0 just where the plan has no fault
-pub gates-number : (q : Plan) (r : GateRows) → r ≡ gate_rows_answer q → (r.number ≡ 0 → plan_fault q ≡ 0) × (plan_fault q ≡ 0 → r.number ≡ 0)
+-- its number is 19 or 0, and 0 just where the plan has no fault
+rows-number : (q : Plan) → (gate_rows_answer q).number ≡ pick (eqb (plan_fault q) 0) 0 19
 unfolding gate_rows_answer
-gates-number q r a = (λ z. go z (ℕ_discrete (plan_fault q) 0), λ e. ap (λ (g : GateRows). g.number) a ∙ rw (eq-eqb (plan_fault q) 0 e))
+rows-number q = by (eqb (plan_fault q) 0)
   where
-    go : r.number ≡ 0 → Dec (plan_fault q ≡ 0) → plan_fault q ≡ 0
-    go z (yes e) = e
-    go z (no d) =
-        let n : r.number ≡ 19 = ap (λ (g : GateRows). g.number) a ∙ rw (ne_eqb (plan_fault q) 0 d) in
-        absurd (omega (arith, n, z))
+    by : (t : Bool) → (pick t (gate_rows_of q) no_gate_rows).number ≡ pick t 0 19
+    by true = refl
+    by false = refl
+
+pub gates-sound : (q : Plan) → 0 ≡ (gate_rows_answer q).number → plan_fault q ≡ 0
+gates-sound q e = go (ℕ_discrete (plan_fault q) 0)
+  where
+    go : Dec (plan_fault q ≡ 0) → plan_fault q ≡ 0
+    go (yes f) = f
+    go (no d) =
+        let n : (gate_rows_answer q).number ≡ 19 = rows-number q ∙ rw (ne_eqb (plan_fault q) 0 d) in
+        absurd (omega (arith, e, n))
+
+pub gates_refused : (q : Plan) (r : Refusal) → refusal_number r ≡ (gate_rows_answer q).number → (plan_fault q ≢ 0) × (refusal_number r ≡ 19)
+gates_refused q r e = (fault, e ∙ rows-number q ∙ rw (ne_eqb (plan_fault q) 0 fault))
+  where
+    fault : plan_fault q ≢ 0
+    fault z =
+        let n : (gate_rows_answer q).number ≡ 0 = rows-number q ∙ rw (eq-eqb (plan_fault q) 0 z) in
+        refusal_nonzero r (e ∙ n)
 
 -- so that the test of rows is the plan's
 pub gates_fault : (q : Plan) (r : GateRows) → GatesOf q r → (N count : ℕ) (ts : List Read) → rows_fault (told_by r) N count ts ≡ rows_fault (gates_of (setting_of q)) N count ts

@@ -1,6 +1,6 @@
 -- What the code's plan and state mean in the definitions of `pieces`, and what each public call answers and leaves.
 --
--- Main definitions: `setting_of`, `state_in`, `counts_in`, `state_of`, `with_state`; `open_answer`, `open_left`, `rows_answer`, `rows_left`, `s_words_answer`, `s_words_left`, `cells_answer`, `cells_left`,
+-- Main definitions: `setting_of`, `state_in`, `counts_in`, `state_of`, `with_state`, `Taken`; `open_answer`, `open_left`, `rows_answer`, `rows_left`, `s_words_answer`, `s_words_left`, `cells_answer`, `cells_left`,
 -- `tables_answer`, `tables_left`, `finish_answer`, `finish_left`.
 use Rattle.std.specs.Prelude.{List, ℕ, ◌*◌, ltb, eqb}
 use Rattle.base.specs.Pick.{pick}
@@ -18,7 +18,6 @@ use Rattle.pieces.specs.Cells.{cells_number, cells_written, cells_state}
 use Rattle.pieces.specs.Tables.{tables_number, tables_written, tables_state}
 use Rattle.pieces.specs.Finishing.{finish_number, finished_copies, finished_state}
 use Rattle.columns.specs.declared.intake.Intake.{Intake}
-use Rattle.columns.specs.declared.intake.Taken.{Taken}
 use Rattle.columns.specs.declared.take.Counts.{Counts}
 
 -- the labels of all copy cells, column by column
@@ -82,8 +81,16 @@ with_state q s = record { plan = q; counts = counts_in s; used = s.used }
 abbrev pub zero_intake : Intake
 zero_intake = with_state zero_plan zero_state
 
+-- what a call answered: 0 or a refusal number, and the state that the next call gets
+pub record Taken : Type 0 where
+  pub number : ℕ
+  pub state : Intake
+
+abbrev pub taken_with : ℕ → Intake → Taken
+taken_with n s = record { number = n; state = s }
+
 abbrev pub refused_with : ℕ → Intake → Taken
-refused_with n s = record { number = n; state = s }
+refused_with n s = taken_with n s
 
 -- "A refusal returns its number and the state given"; an accepted call the state after it
 abbrev pub answered : ℕ → Intake → State → Taken

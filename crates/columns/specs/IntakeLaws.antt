@@ -17,9 +17,8 @@ use Rattle.pieces.specs.Cells.{cells_fault, cells_number, room_for_cells, cells_
 use Rattle.pieces.specs.Tables.{tables_fault, tables_number, tables_written, tables_state, stack_of}
 use Rattle.pieces.specs.Finishing.{complete, all_used, scratch_fine, finish_number, finished_copies, finished_state}
 use Rattle.pieces.specs.NumberLaws.{stood}
-use Rattle.columns.specs.Intake.{setting_of, state_of, with_state, zero_intake, answered, unless_refused, refused_with, open_answer, open_left, rows_answer, rows_left, s_words_answer, s_words_left, cells_answer, cells_left, tables_answer, tables_left, finish_answer, finish_left}
+use Rattle.columns.specs.Intake.{Taken, setting_of, state_of, with_state, zero_intake, answered, unless_refused, refused_with, open_answer, open_left, rows_answer, rows_left, s_words_answer, s_words_left, cells_answer, cells_left, tables_answer, tables_left, finish_answer, finish_left}
 use Rattle.columns.specs.declared.intake.Intake.{Intake}
-use Rattle.columns.specs.declared.intake.Taken.{Taken}
 
 -- a state that stands has a plan without a fault
 pub plan_fine : (s : Intake) → stands (setting_of s.plan) (state_of s) ≡ true → plan_fault s.plan ≡ 0

@@ -64,7 +64,7 @@ module _ (fault : ℕ → ℕ → ℕ) (fine : ℕ → Bool) (bad total : ℕ) (
   abbrev faults : ℕ → List ℕ → ℕ
   faults = first_fault fault (λ k _. suc k)
 
-  section_fault : (k : ℕ) (ws : List ℕ) → k ≤ total → faults k ws ≡ pick (all_of fine (take (total - k) ws)) (pick (leb (length ws) (total - k)) 0 13) bad
+  pub section_fault : (k : ℕ) (ws : List ℕ) → k ≤ total → faults k ws ≡ pick (all_of fine (take (total - k) ws)) (pick (leb (length ws) (total - k)) 0 13) bad
   unfolding first_fault all_of
   section_fault k [] h = rw (take-nil (total - k), leb-zero (total - k))
   section_fault k (w ∷ ws) h = go (dec_lt k total) (section_fault (suc k) ws)

@@ -1,54 +1,33 @@
 // Cell words: the copy columns and the scratch words grow together.
 ghost use Rattle.std.specs.Prelude.{◌≡◌, ℕ, ◌+◌, ◌<◌, ◌≤◌, length, get_or};
+ghost use Rattle.refusal.specs.Refusal.{answer_number};
 ghost use Rattle.pieces.specs.Setting.{cols};
 ghost use Rattle.pieces.specs.Cells.{cells_fault, place_cell, cells_run};
-ghost use Rattle.columns.specs.Section.{all_of, named};
+ghost use Rattle.columns.specs.Section.{named};
 ghost use Rattle.columns.specs.Placeable.{Placeable};
 
+use crate::records::test_words;
 use cs::Variable;
+use refusal::Refusal;
 
 // Whether a cell word is a placeholder or has an index below `vars`.
 fn is_named(vars: u64, variable: Variable) -> bool
     ensures { result ≡ named vars variable.0 }
 {
-    if variable.as_variable_index() < vars {
-        return true;
-    }
-    variable.is_placeholder()
+    variable.as_variable_index() < vars || variable.is_placeholder()
 }
 
-// Whether each of the words is so.
-fn all_named(vars: u64, words: &[u64]) -> bool
-    ensures { result ≡ all_of (named vars) words.now }
-{
-    let mut i = 0;
-    while i < words.len() {
-        if is_named(vars, Variable(words[i])) {
-            i = i + 1;
-        } else {
-            return false;
-        }
-    }
-    true
-}
-
-// The number of the first faulty word of a piece: 14 where one of those that have room is faulty, else 13 where there are
-// more.
-pub(crate) fn cells_fault(total: u64, vars: u64, count: u64, piece: &[u64]) -> u64
+// Tests the words of a piece: one of those that have room is faulty, else there are more.
+pub(crate) fn cells_fault(total: u64, vars: u64, count: u64, piece: &[u64]) -> Result<(), Refusal>
     requires { (count ≤ total) × (total ≤ 4294967296) }
-    ensures { result ≡ cells_fault total vars count piece.now }
+    ensures { answer_number result ≡ cells_fault total vars count piece.now }
 {
-    let room = (total - count) as usize;
-    if room < piece.len() {
-        if all_named(vars, &piece[..room]) {
-            return 13;
-        }
-        return 14;
-    }
-    if all_named(vars, piece) {
-        return 0;
-    }
-    14
+    test_words(
+        (total - count) as usize,
+        piece,
+        |word| is_named(vars, Variable(word)),
+        Refusal::Variable,
+    )
 }
 
 // One cell word: a placeholder changes nothing, an unseen variable stores the cell's word and number, and
@@ -79,9 +58,7 @@ pub(crate) fn place_cells(count: u64, piece: &[u64], copies: &mut [u64], scratch
     requires by_index { (j : ℕ) → j < length piece.now → Placeable (length scratch.old) (get_or piece.now j 0) }
     ensures { cols copies.new scratch.new ≡ cells_run count piece.now (cols copies.old scratch.old) }
 {
-    let mut i = 0;
-    while i < piece.len() {
-        place_cell(count + i as u64, Variable(piece[i]), copies, scratch);
-        i = i + 1;
+    for (i, word) in piece.iter().enumerate() {
+        place_cell(count + i as u64, Variable(*word), copies, scratch);
     }
 }

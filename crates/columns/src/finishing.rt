@@ -11,14 +11,7 @@ pub(crate) fn all_used(many: u64, used: &Marks) -> bool
     requires { many ≤ most_gates }
     ensures { result ≡ all_used many used.now }
 {
-    let mut g: u64 = 0;
-    while g < many {
-        if used[g as usize] == 0 {
-            return false;
-        }
-        g = g + 1;
-    }
-    true
+    (0..many as usize).all(|g| used[g] != 0)
 }
 
 // Whether a variable's value is below p and, where it is seen, its first cell one of `cells`.
@@ -28,9 +21,10 @@ fn variable_fine(cells: u64, v: u64, scratch: &[u64]) -> bool
 {
     let at = 2 * v as usize;
     if scratch[at + 1] < cells {
-        return scratch[at] < field::P;
+        scratch[at] < field::P
+    } else {
+        scratch[at] == 0
     }
-    scratch[at] == 0
 }
 
 // Whether all variables are fine.
@@ -38,15 +32,7 @@ pub(crate) fn scratch_fine(variables: u64, cells: u64, scratch: &[u64]) -> bool
     requires { (variables ≤ 1048576) × (2 * variables ≤ length scratch.now) }
     ensures { result ≡ scratch_fine variables cells scratch.now }
 {
-    let mut v: u64 = 0;
-    while v < variables {
-        if variable_fine(cells, v, scratch) {
-            v = v + 1;
-        } else {
-            return false;
-        }
-    }
-    true
+    (0..variables).all(|v| variable_fine(cells, v, scratch))
 }
 
 // A seen variable's value goes to its first cell.
@@ -69,9 +55,7 @@ pub(crate) fn write_firsts(variables: u64, cells: u64, scratch: &[u64], copies: 
     requires scratch_value { scratch_fine variables cells scratch.now ≡ true }
     ensures { copies.new ≡ finish_from 0 variables scratch.now copies.old }
 {
-    let mut v: u64 = 0;
-    while v < variables {
+    for v in 0..variables {
         write_back(cells, v, scratch, copies);
-        v = v + 1;
     }
 }

@@ -1,15 +1,14 @@
-// The intake: 01's state between calls, and the calls, by value. Each call is lent just the buffers that it
-// may write. A refusal hands the state back as it was and writes nothing.
-ghost use Rattle.std.specs.Prelude.{◌≡◌};
+// The intake: 01's state between calls, and the calls. Each call is lent just the buffers that it may
+// write. A refusal leaves the state as it was and writes nothing.
+ghost use Rattle.std.specs.Prelude.{◌≡◌, IfOk};
+ghost use Rattle.refusal.specs.Refusal.{answer_number};
 ghost use Rattle.pieces.specs.Setting.{cols};
 ghost use Rattle.pieces.specs.Opening.{start_state};
-ghost use Rattle.columns.specs.Intake.{with_state, store_of, open_answer, open_left, rows_answer, rows_left, s_words_answer, s_words_left, cells_answer, cells_left, tables_answer, tables_left, finish_answer, finish_left};
-ghost use Rattle.columns.specs.Given.{counted};
+ghost use Rattle.columns.specs.Intake.{taken_with, with_state, store_of, open_answer, open_left, rows_answer, rows_left, s_words_answer, s_words_left, cells_answer, cells_left, tables_answer, tables_left, finish_answer, finish_left};
 
 use crate::opening::open_parts;
-use crate::take::{
-    Counts, Given, NEVER, OPEN, take_cells, take_finish, take_rows, take_s_words, take_tables,
-};
+use crate::take::{Counts, OPEN, take_cells, take_finish, take_rows, take_s_words, take_tables};
+use refusal::Refusal;
 use selector::{MOST_GATES, Marks};
 use tree::plan::Plan;
 
@@ -20,13 +19,6 @@ pub struct Intake {
     pub plan: Plan,
     pub counts: Counts,
     pub used: Marks,
-}
-
-// 0 or a refusal number, and the state that the next call gets.
-#[derive(Clone, Copy)]
-pub struct Taken {
-    pub number: u64,
-    pub state: Intake,
 }
 
 impl Intake {
@@ -40,11 +32,11 @@ impl Intake {
             cells: 0,
             tables: 0,
             table_rows: 0,
-            phase: phase,
+            phase,
         };
         Intake {
-            plan: plan,
-            counts: counts,
+            plan,
+            counts,
             used: [0; MOST_GATES],
         }
     }
@@ -56,151 +48,69 @@ impl Intake {
         self.plan
     }
 
-    // What a call answered, with the plan and the marks of the state that it got.
-    fn after(self, given: Given) -> Taken
-        ensures { result ≡ counted self given }
-    {
-        let plan = self.plan;
-        let used = self.used;
-        let counts = given.counts;
-        let state = Intake {
-            plan: plan,
-            counts: counts,
-            used: used,
-        };
-        Taken {
-            number: given.number,
-            state: state,
-        }
-    }
-
-    // Opens the columns of a plan: named words zeroed, labels written, words beyond kept. A refusal
-    // hands back a state of zeros.
+    // Opens the columns of a plan: named words zeroed, labels written, words beyond kept.
     pub fn open(
         plan: Plan,
         constants: &mut [u64],
         copies: &mut [u64],
         scratch: &mut [u64],
         tables: &mut [u64],
-    ) -> Taken
-        ensures value { result ≡ open_answer plan (store_of constants.old copies.old scratch.old tables.old) }
+    ) -> Result<Intake, Refusal>
+        ensures value { answer_number result ≡ (open_answer plan (store_of constants.old copies.old scratch.old tables.old)).number }
+        ensures state_value { IfOk result (λ state. state ≡ (open_answer plan (store_of constants.old copies.old scratch.old tables.old)).state) }
         ensures tables_after { store_of constants.new copies.new scratch.new tables.new ≡ open_left plan (store_of constants.old copies.old scratch.old tables.old) }
     {
-        let outline = plan.outline();
-        let number = open_parts(
-            outline,
-            &plan.gates,
-            &plan.nodes,
-            constants,
-            copies,
-            scratch,
-            tables,
-        );
-        if number != 0 {
-            return Taken {
-                number: number,
-                state: Intake::start(Plan::zero(), NEVER),
-            };
-        }
-        Taken {
-            number: 0,
-            state: Intake::start(plan, OPEN),
-        }
+        open_parts(plan.parts(), constants, copies, scratch, tables)?;
+        Ok(Intake::start(plan, OPEN))
     }
 
     // Row records: gate, number of constants, constants.
-    pub fn rows(self, piece: &[u64], constants: &mut [u64]) -> Taken
-        ensures value { result ≡ rows_answer self piece.now constants.old }
-        ensures constants_after { constants.new ≡ rows_left self piece.now constants.old }
+    pub fn rows(&mut self, piece: &[u64], constants: &mut [u64]) -> Result<(), Refusal>
+        ensures value { taken_with (answer_number result) self.new ≡ rows_answer self.old piece.now constants.old }
+        ensures constants_after { constants.new ≡ rows_left self.old piece.now constants.old }
     {
-        let plan = self.plan;
-        let outline = plan.outline();
-        let counts = self.counts;
-        let used = self.used;
-        let told = take_rows(
-            outline,
-            &plan.gates,
-            &plan.nodes,
-            counts,
-            used,
-            piece,
-            constants,
-        );
-        let marks = told.used;
-        let counts = told.counts;
-        let state = Intake {
-            plan: plan,
-            counts: counts,
-            used: marks,
-        };
-        Taken {
-            number: told.number,
-            state: state,
-        }
+        let parts = self.plan.parts();
+        take_rows(parts, &mut self.counts, &mut self.used, piece, constants)
     }
 
     // Words of the specialised constant columns, column by column.
-    pub fn s_words(self, piece: &[u64], constants: &mut [u64]) -> Taken
-        ensures value { result ≡ s_words_answer self piece.now constants.old }
-        ensures constants_after { constants.new ≡ s_words_left self piece.now constants.old }
+    pub fn s_words(&mut self, piece: &[u64], constants: &mut [u64]) -> Result<(), Refusal>
+        ensures value { taken_with (answer_number result) self.new ≡ s_words_answer self.old piece.now constants.old }
+        ensures constants_after { constants.new ≡ s_words_left self.old piece.now constants.old }
     {
-        let plan = self.plan;
-        let outline = plan.outline();
-        let counts = self.counts;
-        let given = take_s_words(outline, &plan.gates, &plan.nodes, counts, piece, constants);
-        self.after(given)
+        let parts = self.plan.parts();
+        take_s_words(parts, &mut self.counts, piece, constants)
     }
 
     // Cell words of the copy columns, column by column.
-    pub fn cells(self, piece: &[u64], copies: &mut [u64], scratch: &mut [u64]) -> Taken
-        ensures value { result ≡ cells_answer self piece.now (cols copies.old scratch.old) }
-        ensures scratch_after { cols copies.new scratch.new ≡ cells_left self piece.now (cols copies.old scratch.old) }
+    pub fn cells(
+        &mut self,
+        piece: &[u64],
+        copies: &mut [u64],
+        scratch: &mut [u64],
+    ) -> Result<(), Refusal>
+        ensures value { taken_with (answer_number result) self.new ≡ cells_answer self.old piece.now (cols copies.old scratch.old) }
+        ensures scratch_after { cols copies.new scratch.new ≡ cells_left self.old piece.now (cols copies.old scratch.old) }
     {
-        let plan = self.plan;
-        let outline = plan.outline();
-        let counts = self.counts;
-        let given = take_cells(
-            outline,
-            &plan.gates,
-            &plan.nodes,
-            counts,
-            piece,
-            copies,
-            scratch,
-        );
-        self.after(given)
+        let parts = self.plan.parts();
+        take_cells(parts, &mut self.counts, piece, copies, scratch)
     }
 
     // Table records: width, rows, contents row by row.
-    pub fn tables(self, piece: &[u64], tables: &mut [u64]) -> Taken
-        ensures value { result ≡ tables_answer self piece.now tables.old }
-        ensures tables_after { tables.new ≡ tables_left self piece.now tables.old }
+    pub fn tables(&mut self, piece: &[u64], tables: &mut [u64]) -> Result<(), Refusal>
+        ensures value { taken_with (answer_number result) self.new ≡ tables_answer self.old piece.now tables.old }
+        ensures tables_after { tables.new ≡ tables_left self.old piece.now tables.old }
     {
-        let plan = self.plan;
-        let outline = plan.outline();
-        let counts = self.counts;
-        let given = take_tables(outline, &plan.gates, &plan.nodes, counts, piece, tables);
-        self.after(given)
+        let parts = self.plan.parts();
+        take_tables(parts, &mut self.counts, piece, tables)
     }
 
     // Finishing: each seen variable's value goes to its first cell.
-    pub fn finish(self, copies: &mut [u64], scratch: &[u64]) -> Taken
-        ensures value { result ≡ finish_answer self (cols copies.old scratch.now) }
-        ensures copies_after { copies.new ≡ finish_left self (cols copies.old scratch.now) }
+    pub fn finish(&mut self, copies: &mut [u64], scratch: &[u64]) -> Result<(), Refusal>
+        ensures value { taken_with (answer_number result) self.new ≡ finish_answer self.old (cols copies.old scratch.now) }
+        ensures copies_after { copies.new ≡ finish_left self.old (cols copies.old scratch.now) }
     {
-        let plan = self.plan;
-        let outline = plan.outline();
-        let counts = self.counts;
-        let used = self.used;
-        let given = take_finish(
-            outline,
-            &plan.gates,
-            &plan.nodes,
-            counts,
-            used,
-            copies,
-            scratch,
-        );
-        self.after(given)
+        let parts = self.plan.parts();
+        take_finish(parts, &mut self.counts, &self.used, copies, scratch)
     }
 }

@@ -1,23 +1,42 @@
 // What rows, S words and tables have in common: words below p, words in place, lines across columns.
-ghost use Rattle.std.specs.Prelude.{◌≡◌, ◌+◌, ◌*◌, ◌<◌, ◌≤◌, length, drop, replicate};
+ghost use Rattle.std.specs.Prelude.{◌≡◌, Bool, ℕ, ◌+◌, ◌*◌, ◌<◌, ◌≤◌, length, take, drop, replicate, leb};
+ghost use Rattle.base.specs.Pick.{pick};
+ghost use Rattle.refusal.specs.Refusal.{answer_number, refusal_number};
 ghost use Rattle.field.specs.Field.{p};
 ghost use Rattle.pieces.specs.Records.{all_below};
 ghost use Rattle.pieces.specs.Writing.{put, put_lines};
 ghost use Rattle.base.specs.Digits.{digits};
 ghost use Rattle.columns.specs.Lines.{strided, cut_lines};
+ghost use Rattle.columns.specs.Section.{all_of};
+
+use refusal::Refusal;
 
 // Whether every word is below p.
 pub(crate) fn all_below(words: &[u64]) -> bool
     ensures { result ≡ all_below p words.now }
 {
-    let mut i = 0;
-    while i < words.len() {
-        if field::P <= words[i] {
-            return false;
-        }
-        i = i + 1;
+    words.iter().all(|word| *word < field::P)
+}
+
+// Tests the words of a piece in a section that has room for `room` words: a word that has room is not
+// fine, else there are more words.
+pub(crate) fn test_words<F: Fn(u64) -> bool>(
+    room: usize,
+    piece: &[u64],
+    fine: F,
+    fault: Refusal,
+) -> Result<(), Refusal>
+    requires { F.IsAlwaysCallable fine }
+    ensures { (test : ℕ → Bool) → ((word : ℕ) (answer : Bool) → F.post fine word answer → answer ≡ test word)
+        → answer_number result ≡ pick (all_of test (take room piece.now)) (pick (leb (length piece.now) room) 0 13) (refusal_number fault) }
+{
+    if !piece.iter().take(room).all(|word| fine(*word)) {
+        return Err(fault);
     }
-    true
+    if room < piece.len() {
+        return Err(Refusal::TooMany);
+    }
+    Ok(())
 }
 
 // Words at consecutive places from `at` on.
@@ -25,11 +44,7 @@ pub(crate) fn write_words(at: usize, words: &[u64], buffer: &mut [u64])
     requires { at + length words.now ≤ length buffer.old }
     ensures { buffer.new ≡ put 1 buffer.old at words.now }
 {
-    let mut i = 0;
-    while i < words.len() {
-        buffer[at + i] = words[i];
-        i = i + 1;
-    }
+    buffer[at..at + words.len()].copy_from_slice(words);
 }
 
 // The first digits of a word at consecutive places, the least first: a path's steps from the root on.
@@ -38,11 +53,9 @@ pub(crate) fn write_path(at: usize, bits: u64, many: u64, buffer: &mut [u64])
     ensures { buffer.new ≡ put 1 buffer.old at (digits many bits) }
 {
     let mut rest = bits;
-    let mut i: u64 = 0;
-    while i < many {
-        buffer[at + i as usize] = rest % 2;
-        rest = rest / 2;
-        i = i + 1;
+    for i in 0..many as usize {
+        buffer[at + i] = rest % 2;
+        rest /= 2;
     }
 }
 
@@ -51,11 +64,7 @@ pub(crate) fn write_same(word: u64, at: usize, many: u64, buffer: &mut [u64])
     requires { at + many ≤ length buffer.old }
     ensures { buffer.new ≡ put 1 buffer.old at (replicate many word) }
 {
-    let mut i: u64 = 0;
-    while i < many {
-        buffer[at + i as usize] = word;
-        i = i + 1;
-    }
+    buffer[at..at + many as usize].fill(word);
 }
 
 // Every `step`-th of the words, from place `from` on, at consecutive places of the buffer from `at`
@@ -72,11 +81,9 @@ pub(crate) fn write_column(
     ensures { buffer.new ≡ put 1 buffer.old at (strided step many (drop from words.now)) }
 {
     let mut place = from;
-    let mut i = 0;
-    while i < many {
+    for i in 0..many {
         buffer[at + i] = words[place];
-        place = place + step;
-        i = i + 1;
+        place += step;
     }
 }
 
@@ -97,10 +104,8 @@ pub(crate) fn write_lines(
     ensures { buffer.new ≡ put_lines width trace row (cut_lines width step many words.now) buffer.old }
 {
     let mut at = row;
-    let mut column = 0;
-    while column < width {
+    for column in 0..width {
         write_column(step, column, at, many, words, buffer);
-        at = at + trace;
-        column = column + 1;
+        at += trace;
     }
 }

@@ -1,11 +1,13 @@
 // Lengths: how many words of each buffer a plan names, and 10 for a buffer that is shorter.
 ghost use Rattle.std.specs.Prelude.{◌≡◌, List, ℕ};
 ghost use Rattle.base.specs.Pick.{pick};
+ghost use Rattle.refusal.specs.Refusal.{answer_number};
 ghost use Rattle.tree.specs.Plan.{plan_in};
 ghost use Rattle.pieces.specs.Opening.{room_to_open};
 ghost use Rattle.columns.specs.Intake.{setting_of, store_of};
 ghost use Rattle.columns.specs.Rooms.{RoomsOf, Small};
 
+use refusal::Refusal;
 use tree::plan::Outline;
 
 // The named words of each buffer.
@@ -22,10 +24,11 @@ pub(crate) fn rooms_of(outline: Outline) -> Rooms
     ensures { (gs ns : List ℕ) → RoomsOf (setting_of (plan_in outline gs ns)) result }
 {
     let lookup = outline.lookup;
-    let mut tables: u64 = 0;
-    if 0 < lookup.mode() {
-        tables = (lookup.lookup_width() + 1) * outline.trace;
-    }
+    let tables = if 0 < lookup.mode() {
+        (lookup.lookup_width() + 1) * outline.trace
+    } else {
+        0
+    };
     Rooms {
         constants: ((outline.told.constants + outline.specialised) * outline.trace) as usize,
         copies: (outline.copy * outline.trace) as usize,
@@ -34,29 +37,29 @@ pub(crate) fn rooms_of(outline: Outline) -> Rooms
     }
 }
 
-// 10 where a buffer is too short to be opened, else 0.
+// Whether each buffer is long enough to be opened.
 pub(crate) fn room_number(
     outline: Outline,
     constants: &[u64],
     copies: &[u64],
     scratch: &[u64],
     tables: &[u64],
-) -> u64
+) -> Result<(), Refusal>
     requires { Small outline }
-    ensures { (gs ns : List ℕ) → result ≡ pick (room_to_open (setting_of (plan_in outline gs ns)) (store_of constants.now copies.now scratch.now tables.now)) 0 10 }
+    ensures { (gs ns : List ℕ) → answer_number result ≡ pick (room_to_open (setting_of (plan_in outline gs ns)) (store_of constants.now copies.now scratch.now tables.now)) 0 10 }
 {
     let rooms = rooms_of(outline);
     if constants.len() < rooms.constants {
-        return 10;
+        return Err(Refusal::ShortBuffer);
     }
     if copies.len() < rooms.copies {
-        return 10;
+        return Err(Refusal::ShortBuffer);
     }
     if scratch.len() < rooms.scratch {
-        return 10;
+        return Err(Refusal::ShortBuffer);
     }
     if tables.len() < rooms.tables {
-        return 10;
+        return Err(Refusal::ShortBuffer);
     }
-    0
+    Ok(())
 }

@@ -43,14 +43,8 @@ fn stage_rows(
     ensures { Stages height bits.now steps.now piece.now stage.new result.next result.rows }
 {
     let mut rows = 0;
-    let mut i = 0;
-    while rows < 32 {
-        if piece.len() <= i {
-            return Staged {
-                next: i,
-                rows: rows,
-            };
-        }
+    let mut i = 0; // goes by a record's length
+    while rows < 32 && i < piece.len() {
         let g = piece[i] as usize;
         let start = i + 2;
         let end = start + piece[i + 1] as usize;
@@ -62,13 +56,10 @@ fn stage_rows(
             &piece[start..end],
             stage,
         );
-        rows = rows + 1;
+        rows += 1;
         i = end;
     }
-    Staged {
-        next: i,
-        rows: rows,
-    }
+    Staged { next: i, rows }
 }
 
 // The records of a piece without a fault, in the rows from `count` on: 32 at a time, which are
@@ -87,13 +78,11 @@ pub(crate) fn write_rows(
     requires piece_value { rows_fault (told_by gates) trace count (rows_of piece.now) ≡ 0 }
     ensures { (path : ℕ → List ℕ) → Spells gates.many path gates.bits gates.steps → constants.new ≡ put_lines height trace count (row_lines path (rows_of piece.now)) constants.old }
 {
-    let bits = gates.bits;
-    let steps = gates.steps;
     let mut stage = [0; 2048];
     let mut row = count as usize;
-    let mut i = 0;
+    let mut i = 0; // goes by what is staged
     while i < piece.len() {
-        let staged = stage_rows(height, &bits, &steps, &piece[i..], &mut stage);
+        let staged = stage_rows(height, &gates.bits, &gates.steps, &piece[i..], &mut stage);
         write_lines(
             height as usize,
             64,
@@ -103,7 +92,7 @@ pub(crate) fn write_rows(
             &stage,
             constants,
         );
-        row = row + staged.rows;
-        i = i + staged.next;
+        row += staged.rows;
+        i += staged.next;
     }
 }

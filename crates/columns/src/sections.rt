@@ -1,10 +1,12 @@
-// The number of a whole circuit whose sections come as one piece each: opening's, then the first
-// faulty section's, then finishing's. No word is written, so that a refusal of any of them leaves
+// What refuses a whole circuit whose sections come as one piece each: opening, then the first
+// faulty section, then finishing. No word is written, so that a refusal of any of them leaves
 // the buffers as they were. Also without buffers, and of a circuit before it is padded.
-ghost use Rattle.std.specs.Prelude.{◌≡◌, List, ℕ, ◌+◌, ◌≤◌, length};
+ghost use Rattle.std.specs.Prelude.{◌≡◌, List, ℕ, ◌+◌, ◌≤◌, length, IfOk};
 ghost use Rattle.base.specs.Limits.{most_gates};
 ghost use Rattle.base.specs.Firsts.{or_number};
+ghost use Rattle.refusal.specs.Refusal.{answer_number};
 ghost use Rattle.labels.specs.Ranges.{longest_trace};
+ghost use Rattle.tree.specs.Answers.{rows_told};
 ghost use Rattle.tree.specs.Plan.{gate_rows_answer, plan_fault, plan_in};
 ghost use Rattle.pieces.specs.Records.{rows_of};
 ghost use Rattle.pieces.specs.Rows.{marked};
@@ -15,36 +17,37 @@ ghost use Rattle.columns.specs.Sections.{sections_number, later_under, pieces_un
 use crate::cells::cells_fault;
 use crate::finishing::all_used;
 use crate::rooms::room_number;
-use crate::row_tests::{Tested, test_rows};
+use crate::row_tests::test_rows;
 use crate::s_words::s_words_fault;
 use crate::tables::tables_fault;
 use crate::take::{Counts, OPEN, complete};
 use labels::LONGEST_TRACE;
+use refusal::Refusal;
 use selector::{MOST_GATES, Marks};
 use tree::gate_rows::GateRows;
-use tree::plan::{Outline, Plan, parts_rows};
+use tree::plan::{Outline, Plan};
 
 // The first fault of S words, cells and tables, each section from its start on. S words and cells are
 // counted against columns of `height` words.
-fn later_fault(plan: Plan, height: u64, s_words: &[u64], cells: &[u64], tables: &[u64]) -> u64
+fn later_fault(
+    plan: Plan,
+    height: u64,
+    s_words: &[u64],
+    cells: &[u64],
+    tables: &[u64],
+) -> Result<(), Refusal>
     requires { (plan_fault plan ≡ 0) × (height ≤ longest_trace) }
-    ensures { result ≡ later_under (setting_of plan) height s_words.now cells.now tables.now }
+    ensures { answer_number result ≡ later_under (setting_of plan) height s_words.now cells.now tables.now }
 {
-    let in_s_words = s_words_fault(plan.specialised * height, 0, s_words);
-    if in_s_words != 0 {
-        return in_s_words;
-    }
-    let in_cells = cells_fault(plan.copy * height, plan.variables, 0, cells);
-    if in_cells != 0 {
-        return in_cells;
-    }
+    s_words_fault(plan.specialised * height, 0, s_words)?;
+    cells_fault(plan.copy * height, plan.variables, 0, cells)?;
     let lookup = plan.lookup;
     let width = lookup.lookup_width();
     tables_fault(0 < lookup.mode(), width, plan.trace, 0, 0, tables)
 }
 
 // 9, then the first fault of the four sections, for a sound plan and what it answers for its gates.
-// Where it is 0, the marks are those of the rows, and their number is told too.
+// Without a fault it gives the number of rows, and the marks are those of the rows.
 fn test_pieces(
     plan: Plan,
     gates: GateRows,
@@ -54,42 +57,37 @@ fn test_pieces(
     cells: &[u64],
     tables: &[u64],
     used: &mut Marks,
-) -> Tested
-    requires { (plan_fault plan ≡ 0) × (gates ≡ gate_rows_answer plan) × (height ≤ longest_trace) }
-    ensures number_value { result.number ≡ or_number (setting_of plan).labelled (pieces_under (setting_of plan) height rows.now s_words.now cells.now tables.now) }
-    ensures rows_value { result.number ≡ 0 → (result.rows ≡ 0 + length (rows_of rows.now)) × (used.new ≡ marked used.old (rows_of rows.now)) }
+) -> Result<u64, Refusal>
+    requires { (plan_fault plan ≡ 0) × (gates ≡ rows_told (gate_rows_answer plan)) × (height ≤ longest_trace) }
+    ensures number_value { answer_number result ≡ or_number (setting_of plan).labelled (pieces_under (setting_of plan) height rows.now s_words.now cells.now tables.now) }
+    ensures rows_value { IfOk result (λ given. (given ≡ 0 + length (rows_of rows.now)) × (used.new ≡ marked used.old (rows_of rows.now))) }
 {
-    let unlabelled = labels::representatives(plan.trace, plan.copy).number;
-    if unlabelled != 0 {
-        return Tested {
-            number: unlabelled,
-            rows: 0,
-        };
-    }
-    let own = gates.own;
-    let barred = gates.barred;
-    let tested = test_rows(gates.many, &own, &barred, plan.trace, 0, rows, used);
-    if tested.number != 0 {
-        return tested;
-    }
-    Tested {
-        number: later_fault(plan, height, s_words, cells, tables),
-        rows: tested.rows,
-    }
+    labels::representatives(plan.trace, plan.copy)?;
+    let given = test_rows(
+        gates.many,
+        &gates.own,
+        &gates.barred,
+        plan.trace,
+        0,
+        rows,
+        used,
+    )?;
+    later_fault(plan, height, s_words, cells, tables)?;
+    Ok(given)
 }
 
 // 16 and 17, of what came in without a fault.
-fn last_tests(outline: Outline, counts: Counts, used: Marks) -> u64
+fn last_tests(outline: Outline, counts: Counts, used: Marks) -> Result<(), Refusal>
     requires { Small outline × (outline.gate_count ≤ most_gates) }
-    ensures { (gs ns : List ℕ) → result ≡ last_tests (setting_of (plan_in outline gs ns)) (state_in counts used) }
+    ensures { (gs ns : List ℕ) → answer_number result ≡ last_tests (setting_of (plan_in outline gs ns)) (state_in counts used) }
 {
-    if complete(outline, counts) {
-        if all_used(outline.gate_count, &used) {
-            return 0;
-        }
-        return 17;
+    if !complete(outline, counts) {
+        return Err(Refusal::Incomplete);
     }
-    16
+    if !all_used(outline.gate_count, &used) {
+        return Err(Refusal::UnusedGate);
+    }
+    Ok(())
 }
 
 // What is wrong with a circuit by itself, for a sound plan and what it answers for its gates.
@@ -100,19 +98,16 @@ fn contents_of(
     s_words: &[u64],
     cells: &[u64],
     tables: &[u64],
-) -> u64
-    requires { (plan_fault plan ≡ 0) × (gates ≡ gate_rows_answer plan) }
-    ensures { result ≡ contents_number (setting_of plan) rows.now s_words.now cells.now tables.now }
+) -> Result<(), Refusal>
+    requires { (plan_fault plan ≡ 0) × (gates ≡ rows_told (gate_rows_answer plan)) }
+    ensures { answer_number result ≡ contents_number (setting_of plan) rows.now s_words.now cells.now tables.now }
 {
     let mut used = [0; MOST_GATES];
-    let tested = test_pieces(
+    let given = test_pieces(
         plan, gates, plan.trace, rows, s_words, cells, tables, &mut used,
-    );
-    if tested.number != 0 {
-        return tested.number;
-    }
+    )?;
     let counts = Counts {
-        rows: tested.rows,
+        rows: given,
         s_words: s_words.len() as u64,
         cells: cells.len() as u64,
         tables: 0,
@@ -122,7 +117,7 @@ fn contents_of(
     last_tests(plan.outline(), counts, used)
 }
 
-// 0, or the first refusal of a circuit for which no buffer is lent: 19, 9, then those of rows, S words,
+// The first refusal of a circuit for which no buffer is lent: 19, 9, then those of rows, S words,
 // cells, tables and finishing. 10 and 18 are left aside.
 pub fn contents_number(
     plan: Plan,
@@ -130,13 +125,10 @@ pub fn contents_number(
     s_words: &[u64],
     cells: &[u64],
     tables: &[u64],
-) -> u64
-    ensures { result ≡ contents_call (setting_of plan) rows.now s_words.now cells.now tables.now }
+) -> Result<(), Refusal>
+    ensures { answer_number result ≡ contents_call (setting_of plan) rows.now s_words.now cells.now tables.now }
 {
-    let gates = parts_rows(plan.outline(), &plan.gates, &plan.nodes);
-    if gates.number != 0 {
-        return 19;
-    }
+    let gates = plan.parts().rows()?;
     contents_of(plan, gates, rows, s_words, cells, tables)
 }
 
@@ -148,23 +140,23 @@ fn unpadded_last(
     s_words: usize,
     cells: usize,
     mut used: Marks,
-) -> u64
+) -> Result<(), Refusal>
     requires { (plan_fault plan ≡ 0) × (height ≤ longest_trace) }
-    ensures { result ≡ unpadded_last (setting_of plan) height gate s_words cells used }
+    ensures { answer_number result ≡ unpadded_last (setting_of plan) height gate s_words cells used }
 {
     if s_words as u64 != plan.specialised * height {
-        return 16;
+        return Err(Refusal::Incomplete);
     }
     if cells as u64 != plan.copy * height {
-        return 16;
+        return Err(Refusal::Incomplete);
     }
     if gate < MOST_GATES as u64 {
         used[gate as usize] = 1;
     }
-    if all_used(plan.gate_count, &used) {
-        return 0;
+    if !all_used(plan.gate_count, &used) {
+        return Err(Refusal::UnusedGate);
     }
-    17
+    Ok(())
 }
 
 // The same of a circuit that is still to be padded to the plan's trace length: S words and cells are
@@ -177,25 +169,19 @@ pub fn unpadded_number(
     s_words: &[u64],
     cells: &[u64],
     tables: &[u64],
-) -> u64
-    ensures { result ≡ unpadded_call (setting_of plan) height gate rows.now s_words.now cells.now tables.now }
+) -> Result<(), Refusal>
+    ensures { answer_number result ≡ unpadded_call (setting_of plan) height gate rows.now s_words.now cells.now tables.now }
 {
-    let gates = parts_rows(plan.outline(), &plan.gates, &plan.nodes);
-    if gates.number != 0 {
-        return 19;
-    }
+    let gates = plan.parts().rows()?;
     if LONGEST_TRACE < height {
-        return 1;
+        return Err(Refusal::Parameter);
     }
     let mut used = [0; MOST_GATES];
-    let tested = test_pieces(plan, gates, height, rows, s_words, cells, tables, &mut used);
-    if tested.number != 0 {
-        return tested.number;
-    }
+    test_pieces(plan, gates, height, rows, s_words, cells, tables, &mut used)?;
     unpadded_last(plan, height, gate, s_words.len(), cells.len(), used)
 }
 
-// 0, or the first refusal of opening, rows, S words, cells, tables and finishing; 18 is left aside.
+// The first refusal of opening, rows, S words, cells, tables and finishing; 18 is left aside.
 // Of the four lent buffers only the lengths are read.
 pub fn sections_number(
     plan: Plan,
@@ -207,18 +193,11 @@ pub fn sections_number(
     copies: &[u64],
     scratch: &[u64],
     tables: &[u64],
-) -> u64
-    ensures { result ≡ sections_number (setting_of plan) (store_of constants.now copies.now scratch.now tables.now) rows.now s_words.now cells.now table_words.now }
+) -> Result<(), Refusal>
+    ensures { answer_number result ≡ sections_number (setting_of plan) (store_of constants.now copies.now scratch.now tables.now) rows.now s_words.now cells.now table_words.now }
 {
-    // its number is the plan's test, which is not made a second time
-    let outline = plan.outline();
-    let gates = parts_rows(outline, &plan.gates, &plan.nodes);
-    if gates.number != 0 {
-        return 19;
-    }
-    let short = room_number(outline, constants, copies, scratch, tables);
-    if short != 0 {
-        return short;
-    }
+    // this is the plan's test too, which is not made a second time
+    let gates = plan.parts().rows()?;
+    room_number(plan.outline(), constants, copies, scratch, tables)?;
     contents_of(plan, gates, rows, s_words, cells, table_words)
 }

@@ -1,5 +1,6 @@
 // Lookup tables: stacked, each row with its table's number.
 ghost use Rattle.std.specs.Prelude.{◌≡◌, true, ◌+◌, ◌*◌, ◌≤◌, length};
+ghost use Rattle.refusal.specs.Refusal.{answer_number};
 ghost use Rattle.pieces.specs.Records.{table_size, tables_of};
 ghost use Rattle.pieces.specs.Front.{front};
 ghost use Rattle.pieces.specs.Writing.{put_lines};
@@ -7,43 +8,50 @@ ghost use Rattle.pieces.specs.Tables.{table_fault, tables_fault, entries, table_
 ghost use Rattle.columns.specs.Stacked.{stack};
 
 use crate::records::{all_below, write_lines, write_same};
+use refusal::Refusal;
 
 pub const MOST_TABLES: u64 = 255;
 
-// The number of the record at the front of the words, 0 where it has no fault: after `count`
-// tables of `high` rows in all.
-fn table_fault(lookup: bool, width: u64, trace: u64, count: u64, high: u64, words: &[u64]) -> u64
+// Tests the record at the front of the words, after `count` tables of `high` rows in all.
+fn table_fault(
+    lookup: bool,
+    width: u64,
+    trace: u64,
+    count: u64,
+    high: u64,
+    words: &[u64],
+) -> Result<(), Refusal>
     requires { (width ≤ 16) × (high ≤ trace) × (trace ≤ 65536) }
-    ensures { result ≡ table_fault lookup width trace (stack count high) (front table_size words.now) }
+    ensures { answer_number result ≡ table_fault lookup width trace (stack count high) (front table_size words.now) }
 {
-    if lookup {
-        if words.len() < 2 {
-            return 15;
-        }
-        if words[0] != width {
-            return 15;
-        }
-        if MOST_TABLES <= count {
-            return 15;
-        }
-        let n = words[1];
-        if trace - high < n {
-            return 15;
-        }
-        let size = (width * n) as usize;
-        if words.len() - 2 < size {
-            return 15;
-        }
-        let end = 2 + size;
-        if all_below(&words[2..end]) {
-            return 0;
-        }
-        return 11;
+    if !lookup {
+        return Err(Refusal::Table);
     }
-    15
+    if words.len() < 2 {
+        return Err(Refusal::Table);
+    }
+    if words[0] != width {
+        return Err(Refusal::Table);
+    }
+    if MOST_TABLES <= count {
+        return Err(Refusal::Table);
+    }
+    let n = words[1];
+    if trace - high < n {
+        return Err(Refusal::Table);
+    }
+    let size = (width * n) as usize;
+    if words.len() - 2 < size {
+        return Err(Refusal::Table);
+    }
+    let end = 2 + size;
+    if !all_below(&words[2..end]) {
+        return Err(Refusal::NotAnElement);
+    }
+    Ok(())
 }
 
-// The number of the first faulty record of a piece.
+// Tests the records of a piece, each after those before it.
 pub(crate) fn tables_fault(
     lookup: bool,
     width: u64,
@@ -51,24 +59,21 @@ pub(crate) fn tables_fault(
     count: u64,
     high: u64,
     piece: &[u64],
-) -> u64
+) -> Result<(), Refusal>
     requires { (width ≤ 16) × (count ≤ 255) × (high ≤ trace) × (trace ≤ 65536) }
-    ensures { result ≡ tables_fault lookup width trace (stack count high) (tables_of piece.now) }
+    ensures { answer_number result ≡ tables_fault lookup width trace (stack count high) (tables_of piece.now) }
 {
     let mut t = count;
     let mut h = high;
-    let mut i = 0;
+    let mut i = 0; // goes by a record's length
     while i < piece.len() {
-        let fault = table_fault(lookup, width, trace, t, h, &piece[i..]);
-        if fault != 0 {
-            return fault;
-        }
+        table_fault(lookup, width, trace, t, h, &piece[i..])?;
         let n = piece[i + 1];
-        t = t + 1;
-        h = h + n;
-        i = i + 2 + (width * n) as usize;
+        t += 1;
+        h += n;
+        i += 2 + (width * n) as usize;
     }
-    0
+    Ok(())
 }
 
 // The rows of one table, from the row `high` on: their words, then a column of its number.
@@ -112,12 +117,12 @@ pub(crate) fn write_tables(
 {
     let mut t = count;
     let mut h = high;
-    let mut i = 0;
+    let mut i = 0; // goes by a record's length
     while i < piece.len() {
         let n = piece[i + 1];
         let start = i + 2;
         let end = start + (width * n) as usize;
-        t = t + 1;
+        t += 1;
         write_table(
             width as usize,
             trace as usize,
@@ -127,7 +132,7 @@ pub(crate) fn write_tables(
             &piece[start..end],
             tables,
         );
-        h = h + n;
+        h += n;
         i = end;
     }
     TableStack { count: t, high: h }

@@ -1,11 +1,13 @@
-// The calls on a state in parts: the plan's outline by value and its words lent, the counts by value. So a caller who holds
-// a state as words copies no plan. A refusal hands the counts back as they were and writes nothing.
+// The calls on a state in parts: the plan's words are lent. So a caller who holds a state as words
+// copies no plan. A refusal leaves counts and marks as they were and writes nothing.
 ghost use Rattle.std.specs.Prelude.{◌≡◌, List, [], ℕ};
-ghost use Rattle.tree.specs.Plan.{plan_in};
+ghost use Rattle.base.specs.Pick.{pick};
+ghost use Rattle.refusal.specs.Refusal.{answer_number};
+ghost use Rattle.tree.specs.Plan.{parts_plan, plan_in};
 ghost use Rattle.pieces.specs.Setting.{cols, counts_fit, stands};
 ghost use Rattle.pieces.specs.Finishing.{complete};
-ghost use Rattle.columns.specs.Intake.{state_in, setting_of, rows_answer, rows_left, s_words_answer, s_words_left, cells_answer, cells_left, tables_answer, tables_left, finish_answer, finish_left};
-ghost use Rattle.columns.specs.Given.{intake_in, given_of, given_with, marked_of, marked_with};
+ghost use Rattle.columns.specs.Intake.{state_in, setting_of, with_state, rows_answer, rows_left, s_words_answer, s_words_left, cells_answer, cells_left, tables_answer, tables_left, finish_answer, finish_left};
+ghost use Rattle.columns.specs.Given.{given_of, given_with, marked_of, marked_with};
 ghost use Rattle.columns.specs.Rooms.{Small};
 
 use crate::cells::{cells_fault, place_cells};
@@ -16,8 +18,9 @@ use crate::row_tests::test_rows;
 use crate::rows::write_rows;
 use crate::s_words::s_words_fault;
 use crate::tables::{MOST_TABLES, tables_fault, write_tables};
+use refusal::Refusal;
 use selector::Marks;
-use tree::plan::{Outline, parts_fault, parts_rows};
+use tree::plan::{Outline, Parts};
 
 // The phases of a state. Any other word is no open state either.
 pub const NEVER: u64 = 0;
@@ -35,40 +38,6 @@ pub struct Counts {
     pub tables: u64,
     pub table_rows: u64,
     pub phase: u64,
-}
-
-// 0 or a refusal number, and the counts that the next call gets.
-#[derive(Clone, Copy)]
-pub struct Given {
-    pub number: u64,
-    pub counts: Counts,
-}
-
-// The same with a mark for each gate that is in a row.
-#[derive(Clone, Copy)]
-pub struct Marked {
-    pub number: u64,
-    pub counts: Counts,
-    pub used: Marks,
-}
-
-fn give(number: u64, counts: Counts) -> Given
-    ensures { result ≡ given_with number counts }
-{
-    Given {
-        number: number,
-        counts: counts,
-    }
-}
-
-fn give_marked(number: u64, counts: Counts, used: Marks) -> Marked
-    ensures { result ≡ marked_with number counts used }
-{
-    Marked {
-        number: number,
-        counts: counts,
-        used: used,
-    }
 }
 
 // Whether no count is past its section.
@@ -98,182 +67,157 @@ fn counts_fit(outline: Outline, counts: Counts) -> bool
     counts.table_rows <= 0
 }
 
-// Whether this is no made-up state: a sound plan, open, and no count past its section.
-fn stands<'a>(outline: Outline, gates: &'a [u64], nodes: &'a [u64], counts: Counts) -> bool
-    ensures { (us : List ℕ) → result ≡ stands (setting_of (plan_in outline gates.now nodes.now)) (state_in counts us) }
+// Refuses a made-up state: a sound plan, open, and no count past its section.
+fn stands<'a>(parts: Parts<'a>, counts: Counts) -> Result<(), Refusal>
+    ensures { (us : List ℕ) → answer_number result ≡ pick (stands (setting_of (parts_plan parts.entry)) (state_in counts us)) 0 19 }
 {
-    if parts_fault(outline, gates, nodes) != 0 {
-        return false;
-    }
+    parts.fault()?;
     if counts.phase != OPEN {
-        return false;
+        return Err(Refusal::MadeUp);
     }
-    counts_fit(outline, counts)
+    if !counts_fit(parts.outline, counts) {
+        return Err(Refusal::MadeUp);
+    }
+    Ok(())
 }
 
 // Row records: gate, number of constants, constants.
 pub fn take_rows<'a>(
-    outline: Outline,
-    gates: &'a [u64],
-    nodes: &'a [u64],
-    mut counts: Counts,
-    used: Marks,
+    parts: Parts<'a>,
+    counts: &mut Counts,
+    used: &mut Marks,
     piece: &'a [u64],
     constants: &mut [u64],
-) -> Marked
-    ensures value { result ≡ marked_of (rows_answer (intake_in outline gates.now nodes.now counts used) piece.now constants.old) }
-    ensures constants_after { constants.new ≡ rows_left (intake_in outline gates.now nodes.now counts used) piece.now constants.old }
+) -> Result<(), Refusal>
+    ensures value { marked_with (answer_number result) counts.new used.new ≡ marked_of (rows_answer (with_state (parts_plan parts.entry) (state_in counts.old used.old)) piece.now constants.old) }
+    ensures constants_after { constants.new ≡ rows_left (with_state (parts_plan parts.entry) (state_in counts.old used.old)) piece.now constants.old }
 {
-    // its number is the plan's test, which is not made a second time
-    let told = parts_rows(outline, gates, nodes);
-    if told.number != 0 {
-        return give_marked(19, counts, used);
-    }
+    // this is the plan's test too, which is not made a second time
+    let gates = parts.rows()?;
+    let outline = parts.outline;
     if counts.phase != OPEN {
-        return give_marked(19, counts, used);
+        return Err(Refusal::MadeUp);
     }
-    if counts_fit(outline, counts) {
-        if constants.len() < rooms_of(outline).constants {
-            return give_marked(10, counts, used);
-        }
-        let own = told.own;
-        let barred = told.barred;
-        let mut marks = used;
-        let tested = test_rows(
-            told.many,
-            &own,
-            &barred,
-            outline.trace,
-            counts.rows,
-            piece,
-            &mut marks,
-        );
-        if tested.number != 0 {
-            return give_marked(tested.number, counts, used);
-        }
-        write_rows(
-            outline.told.constants,
-            outline.trace,
-            counts.rows,
-            told,
-            piece,
-            constants,
-        );
-        counts.rows = tested.rows;
-        return give_marked(0, counts, marks);
+    if !counts_fit(outline, *counts) {
+        return Err(Refusal::MadeUp);
     }
-    give_marked(19, counts, used)
+    if constants.len() < rooms_of(outline).constants {
+        return Err(Refusal::ShortBuffer);
+    }
+    // a refused piece marks no gate
+    let mut marks = *used;
+    let rows = test_rows(
+        gates.many,
+        &gates.own,
+        &gates.barred,
+        outline.trace,
+        counts.rows,
+        piece,
+        &mut marks,
+    )?;
+    write_rows(
+        outline.told.constants,
+        outline.trace,
+        counts.rows,
+        gates,
+        piece,
+        constants,
+    );
+    counts.rows = rows;
+    *used = marks;
+    Ok(())
 }
 
 // Words of the specialised constant columns, column by column.
 pub fn take_s_words<'a>(
-    outline: Outline,
-    gates: &'a [u64],
-    nodes: &'a [u64],
-    mut counts: Counts,
+    parts: Parts<'a>,
+    counts: &mut Counts,
     piece: &'a [u64],
     constants: &mut [u64],
-) -> Given
-    ensures value { result ≡ given_of (s_words_answer (intake_in outline gates.now nodes.now counts []) piece.now constants.old) }
-    ensures constants_after { constants.new ≡ s_words_left (intake_in outline gates.now nodes.now counts []) piece.now constants.old }
+) -> Result<(), Refusal>
+    ensures value { given_with (answer_number result) counts.new ≡ given_of (s_words_answer (with_state (parts_plan parts.entry) (state_in counts.old [])) piece.now constants.old) }
+    ensures constants_after { constants.new ≡ s_words_left (with_state (parts_plan parts.entry) (state_in counts.old [])) piece.now constants.old }
 {
-    if stands(outline, gates, nodes, counts) {
-        if constants.len() < rooms_of(outline).constants {
-            return give(10, counts);
-        }
-        let total = outline.specialised * outline.trace;
-        let fault = s_words_fault(total, counts.s_words, piece);
-        if fault != 0 {
-            return give(fault, counts);
-        }
-        let at = (outline.told.constants * outline.trace + counts.s_words) as usize;
-        write_words(at, piece, constants);
-        counts.s_words = counts.s_words + piece.len() as u64;
-        return give(0, counts);
+    stands(parts, *counts)?;
+    let outline = parts.outline;
+    if constants.len() < rooms_of(outline).constants {
+        return Err(Refusal::ShortBuffer);
     }
-    give(19, counts)
+    let total = outline.specialised * outline.trace;
+    s_words_fault(total, counts.s_words, piece)?;
+    let at = (outline.told.constants * outline.trace + counts.s_words) as usize;
+    write_words(at, piece, constants);
+    counts.s_words += piece.len() as u64;
+    Ok(())
 }
 
 // Cell words of the copy columns, column by column.
 pub fn take_cells<'a>(
-    outline: Outline,
-    gates: &'a [u64],
-    nodes: &'a [u64],
-    mut counts: Counts,
+    parts: Parts<'a>,
+    counts: &mut Counts,
     piece: &'a [u64],
     copies: &mut [u64],
     scratch: &mut [u64],
-) -> Given
-    ensures value { result ≡ given_of (cells_answer (intake_in outline gates.now nodes.now counts []) piece.now (cols copies.old scratch.old)) }
-    ensures scratch_after { cols copies.new scratch.new ≡ cells_left (intake_in outline gates.now nodes.now counts []) piece.now (cols copies.old scratch.old) }
+) -> Result<(), Refusal>
+    ensures value { given_with (answer_number result) counts.new ≡ given_of (cells_answer (with_state (parts_plan parts.entry) (state_in counts.old [])) piece.now (cols copies.old scratch.old)) }
+    ensures scratch_after { cols copies.new scratch.new ≡ cells_left (with_state (parts_plan parts.entry) (state_in counts.old [])) piece.now (cols copies.old scratch.old) }
 {
-    if stands(outline, gates, nodes, counts) {
-        let rooms = rooms_of(outline);
-        if copies.len() < rooms.copies {
-            return give(10, counts);
-        }
-        if scratch.len() < rooms.scratch {
-            return give(10, counts);
-        }
-        let total = outline.copy * outline.trace;
-        let fault = cells_fault(total, outline.variables, counts.cells, piece);
-        if fault != 0 {
-            return give(fault, counts);
-        }
-        place_cells(counts.cells, piece, copies, scratch);
-        counts.cells = counts.cells + piece.len() as u64;
-        return give(0, counts);
+    stands(parts, *counts)?;
+    let outline = parts.outline;
+    let rooms = rooms_of(outline);
+    if copies.len() < rooms.copies {
+        return Err(Refusal::ShortBuffer);
     }
-    give(19, counts)
+    if scratch.len() < rooms.scratch {
+        return Err(Refusal::ShortBuffer);
+    }
+    let total = outline.copy * outline.trace;
+    cells_fault(total, outline.variables, counts.cells, piece)?;
+    place_cells(counts.cells, piece, copies, scratch);
+    counts.cells += piece.len() as u64;
+    Ok(())
 }
 
 // Table records: width, rows, contents row by row.
 pub fn take_tables<'a>(
-    outline: Outline,
-    gates: &'a [u64],
-    nodes: &'a [u64],
-    mut counts: Counts,
+    parts: Parts<'a>,
+    counts: &mut Counts,
     piece: &'a [u64],
     tables: &mut [u64],
-) -> Given
-    ensures value { result ≡ given_of (tables_answer (intake_in outline gates.now nodes.now counts []) piece.now tables.old) }
-    ensures tables_after { tables.new ≡ tables_left (intake_in outline gates.now nodes.now counts []) piece.now tables.old }
+) -> Result<(), Refusal>
+    ensures value { given_with (answer_number result) counts.new ≡ given_of (tables_answer (with_state (parts_plan parts.entry) (state_in counts.old [])) piece.now tables.old) }
+    ensures tables_after { tables.new ≡ tables_left (with_state (parts_plan parts.entry) (state_in counts.old [])) piece.now tables.old }
 {
-    if stands(outline, gates, nodes, counts) {
-        if tables.len() < rooms_of(outline).tables {
-            return give(10, counts);
-        }
-        let lookup = outline.lookup;
-        let width = lookup.lookup_width();
-        let looked = 0 < lookup.mode();
-        let fault = tables_fault(
-            looked,
+    stands(parts, *counts)?;
+    let outline = parts.outline;
+    if tables.len() < rooms_of(outline).tables {
+        return Err(Refusal::ShortBuffer);
+    }
+    let lookup = outline.lookup;
+    let width = lookup.lookup_width();
+    let looked = 0 < lookup.mode();
+    tables_fault(
+        looked,
+        width,
+        outline.trace,
+        counts.tables,
+        counts.table_rows,
+        piece,
+    )?;
+    // without a lookup mode no record comes so far
+    if looked {
+        let stack = write_tables(
             width,
             outline.trace,
             counts.tables,
             counts.table_rows,
             piece,
+            tables,
         );
-        if fault != 0 {
-            return give(fault, counts);
-        }
-        if looked {
-            let stack = write_tables(
-                width,
-                outline.trace,
-                counts.tables,
-                counts.table_rows,
-                piece,
-                tables,
-            );
-            counts.tables = stack.count;
-            counts.table_rows = stack.high;
-            return give(0, counts);
-        }
-        // without a lookup mode no record comes so far
-        return give(0, counts);
+        counts.tables = stack.count;
+        counts.table_rows = stack.high;
     }
-    give(19, counts)
+    Ok(())
 }
 
 // Whether rows, S words and cells are all there.
@@ -293,38 +237,35 @@ pub(crate) fn complete(outline: Outline, counts: Counts) -> bool
 // Finishing: each seen variable's value goes to its first cell, by rising index. Nothing is
 // written unless everything is complete, every gate is in a row and all of scratch is fine.
 pub fn take_finish<'a>(
-    outline: Outline,
-    gates: &'a [u64],
-    nodes: &'a [u64],
-    mut counts: Counts,
-    used: Marks,
+    parts: Parts<'a>,
+    counts: &mut Counts,
+    used: &Marks,
     copies: &mut [u64],
     scratch: &'a [u64],
-) -> Given
-    ensures value { result ≡ given_of (finish_answer (intake_in outline gates.now nodes.now counts used) (cols copies.old scratch.now)) }
-    ensures copies_after { copies.new ≡ finish_left (intake_in outline gates.now nodes.now counts used) (cols copies.old scratch.now) }
+) -> Result<(), Refusal>
+    ensures value { given_with (answer_number result) counts.new ≡ given_of (finish_answer (with_state (parts_plan parts.entry) (state_in counts.old used.now)) (cols copies.old scratch.now)) }
+    ensures copies_after { copies.new ≡ finish_left (with_state (parts_plan parts.entry) (state_in counts.old used.now)) (cols copies.old scratch.now) }
 {
-    if stands(outline, gates, nodes, counts) {
-        let rooms = rooms_of(outline);
-        if copies.len() < rooms.copies {
-            return give(10, counts);
-        }
-        if scratch.len() < rooms.scratch {
-            return give(10, counts);
-        }
-        if complete(outline, counts) {
-            if all_used(outline.gate_count, &used) {
-                let cells = outline.copy * outline.trace;
-                if scratch_fine(outline.variables, cells, scratch) {
-                    write_firsts(outline.variables, cells, scratch, copies);
-                    counts.phase = FINISHED;
-                    return give(0, counts);
-                }
-                return give(18, counts);
-            }
-            return give(17, counts);
-        }
-        return give(16, counts);
+    stands(parts, *counts)?;
+    let outline = parts.outline;
+    let rooms = rooms_of(outline);
+    if copies.len() < rooms.copies {
+        return Err(Refusal::ShortBuffer);
     }
-    give(19, counts)
+    if scratch.len() < rooms.scratch {
+        return Err(Refusal::ShortBuffer);
+    }
+    if !complete(outline, *counts) {
+        return Err(Refusal::Incomplete);
+    }
+    if !all_used(outline.gate_count, used) {
+        return Err(Refusal::UnusedGate);
+    }
+    let cells = outline.copy * outline.trace;
+    if !scratch_fine(outline.variables, cells, scratch) {
+        return Err(Refusal::Scratch);
+    }
+    write_firsts(outline.variables, cells, scratch, copies);
+    counts.phase = FINISHED;
+    Ok(())
 }

@@ -1,34 +1,15 @@
--- `columns::finishing::all_used` meets its contract. The gates passed are used, so those that are left decide.
-use Rattle.std.proofs.Common.{◌≡◌, sym, ◌∙◌, arith, ℕ, ◌-◌, get_or, true, false, eqb, eq-eqb, ne_eqb}
+-- `columns::finishing::all_used` meets its contract.
+use Rattle.std.proofs.Common.{◌∙◌, arith, ℕ, get_or, true, false, eqb, rules, tests}
+use Rattle.std.proofs.lemmas.Iterator.{YieldsList-from_range}
+use Rattle.std.proofs.lemmas.Iterator.Search.{all_from_yields_List}
 use Rattle.base.specs.Pick.{pick}
 use Rattle.pieces.specs.Finishing.{all_used}
-use Rattle.pieces.specs.CellLaws.{every_turn, every_found, every_done}
+use Rattle.columns.proofs.Tested.{all-numbers}
 use Rattle.columns.proofs.finishing.all_used.Goals as goal
 
-pub loop-g-init : goal.loop-g-init
-unfolding all_used
-loop-g-init c = let z : c.args.many - 0 ≡ c.args.many = omega arith in (omega arith, rw z)
-
-pub offset_bounds-used-g : goal.offset_bounds-used-g
-offset_bounds-used-g c = omega (arith, c.requires)
-
-pub bounds-used-g : goal.bounds-used-g
-bounds-used-g c = omega (arith, c.requires)
-
-pub returns-then-used-g-eq0 : goal.returns-then-used-g-eq0
-returns-then-used-g-eq0 c =
-    let a = c.args in
-    let l = c.loop-g in
-    sym (l.invariant.1 ∙ every_found a.many l.g (λ (k : ℕ). pick (eqb (get_or a.used.now k 0) 0) false true) c.loop-g-test.true (rw (eq-eqb (get_or a.used.now l.g 0) 0 c.if-used-g-eq0.true)))
-
-pub loop-g-preserved : goal.loop-g-preserved
-loop-g-preserved c =
-    let a = c.args in
-    let l = c.loop-g in
-    (omega arith, l.invariant.1 ∙ every_turn a.many l.g (λ (k : ℕ). pick (eqb (get_or a.used.now k 0) 0) false true) c.loop-g-test.true (rw (ne_eqb (get_or a.used.now l.g 0) 0 c.if-used-g-eq0.false)))
-
 pub returns : goal.returns
+unfolding all_used
 returns c =
-    let a = c.args in
-    let l = c.loop-g in
-    sym (l.invariant.1 ∙ every_done a.many l.g (λ (k : ℕ). pick (eqb (get_or a.used.now k 0) 0) false true) (omega arith))
+    let used = c.args.used.now in
+    all_from_yields_List (λ (g : ℕ). pick (eqb (get_or used g 0) 0) false true) _ _ _ c.all.ensures.ran (YieldsList-from_range 0 c.args.many c.args.many (cc) (omega arith)) (λ x b q k. search (rules, tests))
+    ∙ all-numbers 0 c.args.many _

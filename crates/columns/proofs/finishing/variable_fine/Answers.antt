@@ -33,8 +33,8 @@ returns-then-scratch-at c =
     let a = c.args in
     inside a.cells (get_or a.scratch.now (2 * a.v) 0) (get_or a.scratch.now (2 * a.v + 1) 0) c.if-scratch-at.true
 
-pub returns : goal.returns
+pub returns-else-scratch-at : goal.returns-else-scratch-at
 unfolding variable_fine
-returns c =
+returns-else-scratch-at c =
     let a = c.args in
     outside a.cells (get_or a.scratch.now (2 * a.v) 0) (get_or a.scratch.now (2 * a.v + 1) 0) c.if-scratch-at.false

@@ -18,9 +18,6 @@ write_back-requires c =
     let l = c.loop-v in
     record { v_bound = (omega (arith, c.requires.variables_bound), omega (arith, c.requires.variables_bound), omega (arith, c.requires.variables_bound, l.invariant.1)); v_value = each a.variables a.cells a.scratch.now c.requires.scratch_value l.v c.loop-v-test.true }
 
-pub overflow_add-v : goal.overflow_add-v
-overflow_add-v c = omega (arith, c.requires.variables_bound)
-
 pub loop-v-preserved : goal.loop-v-preserved
 loop-v-preserved c =
     let a = c.args in

@@ -5,6 +5,3 @@ use Rattle.columns.proofs.finishing.write_firsts.Given as goal
 
 abbrev pub invariant-loop-v : goal.invariant-loop-v
 invariant-loop-v l = (l.v ≤ l.variables) × (length l.copies ≡ length l.initial.copies) × (finish_from 0 l.variables l.scratch l.initial.copies ≡ finish_from l.v (l.variables - l.v) l.scratch l.copies)
-
-abbrev pub decreases-loop-v : goal.decreases-loop-v
-decreases-loop-v l = l.variables - l.v

@@ -1,5 +1,5 @@
 -- `columns::records::write_lines` meets its contract. Each turn writes one column of the lines, after the columns before it.
-use Rattle.std.proofs.Common.{◌≡◌, List, ℕ, ◌+◌, ◌-◌, ◌*◌, ◌≤◌, length}
+use Rattle.std.proofs.Common.{◌≡◌, List, ℕ, ◌+◌, ◌*◌, ◌≤◌, length}
 use Rattle.pieces.specs.Writing.{put_lines}
 use Rattle.columns.specs.Lines.{cut_lines}
 use Rattle.columns.proofs.records.write_lines.Given as goal
@@ -13,6 +13,3 @@ pub record Columns (width step trace row many : ℕ) (words buffer₀ buffer : L
 
 abbrev pub invariant-loop-column : goal.invariant-loop-column
 invariant-loop-column l = Columns l.width l.step l.trace l.row l.many l.words l.initial.buffer l.buffer l.at l.column
-
-abbrev pub decreases-loop-column : goal.decreases-loop-column
-decreases-loop-column l = l.width - l.column

@@ -6,6 +6,3 @@ use Rattle.columns.proofs.records.write_path.Given as goal
 
 abbrev pub invariant-loop-i : goal.invariant-loop-i
 invariant-loop-i l = (length l.buffer ≡ length l.initial.buffer) × (put 1 l.initial.buffer l.at (digits l.many l.bits) ≡ put 1 l.buffer (l.at + l.i) (digits (l.many - l.i) l.rest))
-
-abbrev pub decreases-loop-i : goal.decreases-loop-i
-decreases-loop-i l = l.many - l.i

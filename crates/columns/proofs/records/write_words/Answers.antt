@@ -1,23 +1,10 @@
--- `columns::records::write_words` meets its contract. What is left to put from the present buffer is what the whole put gives.
-use Rattle.std.proofs.Common.{◌≡◌, refl, sym, ◌∙◌, add-zero, arith, ◌+◌, length-set}
-use Rattle.pieces.specs.WriteLaws.{put_turn, put_done}
+-- `columns::records::write_words` meets its contract.
+use Rattle.std.proofs.Common.{◌≡◌, arith, ◌+◌, ◌-◌, length}
+use Rattle.columns.proofs.Puts.{put-between}
 use Rattle.columns.proofs.records.write_words.Goals as goal
-
-pub loop-i-init : goal.loop-i-init
-loop-i-init c = (refl, rw add-zero)
-
-pub loop-i-preserved : goal.loop-i-preserved
-loop-i-preserved c =
-    let l = c.loop-i in
-    let a = c.args in
-    let z : a.at + l.i + 1 ≡ a.at + (l.i + 1) = omega arith in
-    (simp length-set l.invariant.0, l.invariant.1 ∙ rw z at (put_turn 1 l.buffer (a.at + l.i) a.words.now l.i c.loop-i-test.true))
-
-pub shape_of-buffer : goal.shape_of-buffer
-shape_of-buffer c = c.loop-i.invariant.0
 
 pub returns : goal.returns
 returns c =
-    let l = c.loop-i in
     let a = c.args in
-    sym (l.invariant.1 ∙ put_done 1 l.buffer (a.at + l.i) a.words.now l.i c.loop-i-test.false)
+    let e : a.at + length a.words.now - a.at ≡ length a.words.now = omega arith in
+    rw (c.copy_from_slice.ensures.after, e, put-between a.words.now a.buffer.now a.at c.requires)

@@ -52,21 +52,7 @@ returns-then-trace-row c =
     let cs = take n (drop 2 a.words.now) in
     let known : g < a.many = c.if-many-gate.false in
     let few : n ≤ get_or a.own.now g 0 = c.if-own-g.false in
-    sym (ap (row_fault (gates_by a.many a.own.now a.barred.now) a.trace a.row) (read) ∙ row_past (gates_by a.many a.own.now a.barred.now) a.trace a.row g n cs known few (ne_eqb (get_or a.barred.now g 0) 1 c.if-barred-g-eq1.false) (sym (below) ∙ c.if-all_below.true) (omega (arith, c.if-trace-row.true)))
-
-pub returns-then-all_below : goal.returns-then-all_below
-returns-then-all_below c =
-    let read : front row_size c.args.words.now ≡ whole (get_or c.args.words.now 0 0) (get_or c.args.words.now 1 0) (take (get_or c.args.words.now 1 0) (drop 2 c.args.words.now)) = front_whole row_size c.args.words.now c.if-words-lt2.false c.if-words-n.false in
-    let below : c.all_below.result ≡ all_below p (take (get_or c.args.words.now 1 0) (drop 2 c.args.words.now)) = let n = get_or c.args.words.now 1 0 in
-    let q : 2 + n - 2 ≡ n = omega arith in
-    c.all_below.ensures ∙ ap (λ (k : ℕ). all_below p (take k (drop 2 c.args.words.now))) q in
-    let a = c.args in
-    let g = get_or a.words.now 0 0 in
-    let n = get_or a.words.now 1 0 in
-    let cs = take n (drop 2 a.words.now) in
-    let known : g < a.many = c.if-many-gate.false in
-    let few : n ≤ get_or a.own.now g 0 = c.if-own-g.false in
-    sym (ap (row_fault (gates_by a.many a.own.now a.barred.now) a.trace a.row) (read) ∙ row_good (gates_by a.many a.own.now a.barred.now) a.trace a.row g n cs (record { known = known; few = few; free = ne_eqb (get_or a.barred.now g 0) 1 c.if-barred-g-eq1.false; small = sym (below) ∙ c.if-all_below.true; room = c.if-trace-row.false }))
+    sym (ap (row_fault (gates_by a.many a.own.now a.barred.now) a.trace a.row) (read) ∙ row_past (gates_by a.many a.own.now a.barred.now) a.trace a.row g n cs known few (ne_eqb (get_or a.barred.now g 0) 1 c.if-barred-g-eq1.false) (sym (below) ∙ c.if-not-all_below.false) (omega (arith, c.if-trace-row.true)))
 
 pub returns : goal.returns
 returns c =
@@ -80,4 +66,18 @@ returns c =
     let cs = take n (drop 2 a.words.now) in
     let known : g < a.many = c.if-many-gate.false in
     let few : n ≤ get_or a.own.now g 0 = c.if-own-g.false in
-    sym (ap (row_fault (gates_by a.many a.own.now a.barred.now) a.trace a.row) (read) ∙ row_large (gates_by a.many a.own.now a.barred.now) a.trace a.row g n cs known few (ne_eqb (get_or a.barred.now g 0) 1 c.if-barred-g-eq1.false) (sym (below) ∙ c.if-all_below.false))
+    sym (ap (row_fault (gates_by a.many a.own.now a.barred.now) a.trace a.row) (read) ∙ row_good (gates_by a.many a.own.now a.barred.now) a.trace a.row g n cs (record { known = known; few = few; free = ne_eqb (get_or a.barred.now g 0) 1 c.if-barred-g-eq1.false; small = sym (below) ∙ c.if-not-all_below.false; room = c.if-trace-row.false }))
+
+pub returns-then-not-all_below : goal.returns-then-not-all_below
+returns-then-not-all_below c =
+    let read : front row_size c.args.words.now ≡ whole (get_or c.args.words.now 0 0) (get_or c.args.words.now 1 0) (take (get_or c.args.words.now 1 0) (drop 2 c.args.words.now)) = front_whole row_size c.args.words.now c.if-words-lt2.false c.if-words-n.false in
+    let below : c.all_below.result ≡ all_below p (take (get_or c.args.words.now 1 0) (drop 2 c.args.words.now)) = let n = get_or c.args.words.now 1 0 in
+    let q : 2 + n - 2 ≡ n = omega arith in
+    c.all_below.ensures ∙ ap (λ (k : ℕ). all_below p (take k (drop 2 c.args.words.now))) q in
+    let a = c.args in
+    let g = get_or a.words.now 0 0 in
+    let n = get_or a.words.now 1 0 in
+    let cs = take n (drop 2 a.words.now) in
+    let known : g < a.many = c.if-many-gate.false in
+    let few : n ≤ get_or a.own.now g 0 = c.if-own-g.false in
+    sym (ap (row_fault (gates_by a.many a.own.now a.barred.now) a.trace a.row) (read) ∙ row_large (gates_by a.many a.own.now a.barred.now) a.trace a.row g n cs known few (ne_eqb (get_or a.barred.now g 0) 1 c.if-barred-g-eq1.false) (sym (below) ∙ c.if-not-all_below.true))

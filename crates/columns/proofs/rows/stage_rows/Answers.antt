@@ -8,95 +8,89 @@ pub loop-rows-init : goal.loop-rows-init
 loop-rows-init c =
     let a = c.args in staging_begin a.height a.bits.now a.steps.now a.piece.now a.stage.now c.requires.height_bound.1
 
-pub returns-then-piece-i : goal.returns-then-piece-i
-returns-then-piece-i c =
-    let a = c.args in
-    let l = c.loop-rows in
-    staging_done a.height a.bits.now a.steps.now a.piece.now l.stage l.rows l.i l.invariant (inr c.if-piece-i.true)
-
 pub offset_bounds-piece-i : goal.offset_bounds-piece-i
 offset_bounds-piece-i c =
-    let turn = staging_front c.args.height c.args.bits.now c.args.steps.now c.args.piece.now c.loop-rows.stage c.loop-rows.rows c.loop-rows.i c.loop-rows.invariant c.requires.stageable c.if-piece-i.false in
+    let turn = staging_front c.args.height c.args.bits.now c.args.steps.now c.args.piece.now c.loop-rows.stage c.loop-rows.rows c.loop-rows.i c.loop-rows.invariant c.requires.stageable c.if-i-piece.true in
     omega (arith, turn)
 
 pub bounds-piece-i : goal.bounds-piece-i
 bounds-piece-i c =
-    let turn = staging_front c.args.height c.args.bits.now c.args.steps.now c.args.piece.now c.loop-rows.stage c.loop-rows.rows c.loop-rows.i c.loop-rows.invariant c.requires.stageable c.if-piece-i.false in
+    let turn = staging_front c.args.height c.args.bits.now c.args.steps.now c.args.piece.now c.loop-rows.stage c.loop-rows.rows c.loop-rows.i c.loop-rows.invariant c.requires.stageable c.if-i-piece.true in
     omega (arith, turn)
 
 pub overflow_add-start : goal.overflow_add-start
 overflow_add-start c =
-    let turn = staging_front c.args.height c.args.bits.now c.args.steps.now c.args.piece.now c.loop-rows.stage c.loop-rows.rows c.loop-rows.i c.loop-rows.invariant c.requires.stageable c.if-piece-i.false in
+    let turn = staging_front c.args.height c.args.bits.now c.args.steps.now c.args.piece.now c.loop-rows.stage c.loop-rows.rows c.loop-rows.i c.loop-rows.invariant c.requires.stageable c.if-i-piece.true in
     omega (arith, turn)
 
 pub overflow_add-end : goal.overflow_add-end
 overflow_add-end c =
-    let turn = staging_front c.args.height c.args.bits.now c.args.steps.now c.args.piece.now c.loop-rows.stage c.loop-rows.rows c.loop-rows.i c.loop-rows.invariant c.requires.stageable c.if-piece-i.false in
+    let turn = staging_front c.args.height c.args.bits.now c.args.steps.now c.args.piece.now c.loop-rows.stage c.loop-rows.rows c.loop-rows.i c.loop-rows.invariant c.requires.stageable c.if-i-piece.true in
     omega (arith, turn)
 
 pub offset_bounds-piece-i-in-loop-rows : goal.offset_bounds-piece-i-in-loop-rows
 offset_bounds-piece-i-in-loop-rows c =
-    let turn = staging_front c.args.height c.args.bits.now c.args.steps.now c.args.piece.now c.loop-rows.stage c.loop-rows.rows c.loop-rows.i c.loop-rows.invariant c.requires.stageable c.if-piece-i.false in
+    let turn = staging_front c.args.height c.args.bits.now c.args.steps.now c.args.piece.now c.loop-rows.stage c.loop-rows.rows c.loop-rows.i c.loop-rows.invariant c.requires.stageable c.if-i-piece.true in
     omega (arith, turn)
 
 pub bounds-piece-i-in-loop-rows : goal.bounds-piece-i-in-loop-rows
 bounds-piece-i-in-loop-rows c =
-    let turn = staging_front c.args.height c.args.bits.now c.args.steps.now c.args.piece.now c.loop-rows.stage c.loop-rows.rows c.loop-rows.i c.loop-rows.invariant c.requires.stageable c.if-piece-i.false in
+    let turn = staging_front c.args.height c.args.bits.now c.args.steps.now c.args.piece.now c.loop-rows.stage c.loop-rows.rows c.loop-rows.i c.loop-rows.invariant c.requires.stageable c.if-i-piece.true in
     omega (arith, turn)
 
 pub overflow_add-end-in-loop-rows : goal.overflow_add-end-in-loop-rows
 overflow_add-end-in-loop-rows c =
-    let turn = staging_front c.args.height c.args.bits.now c.args.steps.now c.args.piece.now c.loop-rows.stage c.loop-rows.rows c.loop-rows.i c.loop-rows.invariant c.requires.stageable c.if-piece-i.false in
+    let turn = staging_front c.args.height c.args.bits.now c.args.steps.now c.args.piece.now c.loop-rows.stage c.loop-rows.rows c.loop-rows.i c.loop-rows.invariant c.requires.stageable c.if-i-piece.true in
     omega (arith, turn)
 
 pub overflow_mul-rows : goal.overflow_mul-rows
 overflow_mul-rows c =
-    let turn = staging_front c.args.height c.args.bits.now c.args.steps.now c.args.piece.now c.loop-rows.stage c.loop-rows.rows c.loop-rows.i c.loop-rows.invariant c.requires.stageable c.if-piece-i.false in
+    let turn = staging_front c.args.height c.args.bits.now c.args.steps.now c.args.piece.now c.loop-rows.stage c.loop-rows.rows c.loop-rows.i c.loop-rows.invariant c.requires.stageable c.if-i-piece.true in
     omega (arith, turn, c.loop-rows-test.true)
 
 pub offset_bounds-bits-g : goal.offset_bounds-bits-g
 offset_bounds-bits-g c =
-    let turn = staging_front c.args.height c.args.bits.now c.args.steps.now c.args.piece.now c.loop-rows.stage c.loop-rows.rows c.loop-rows.i c.loop-rows.invariant c.requires.stageable c.if-piece-i.false in
+    let turn = staging_front c.args.height c.args.bits.now c.args.steps.now c.args.piece.now c.loop-rows.stage c.loop-rows.rows c.loop-rows.i c.loop-rows.invariant c.requires.stageable c.if-i-piece.true in
     omega (arith, turn)
 
 pub bounds-bits-g : goal.bounds-bits-g
 bounds-bits-g c =
-    let turn = staging_front c.args.height c.args.bits.now c.args.steps.now c.args.piece.now c.loop-rows.stage c.loop-rows.rows c.loop-rows.i c.loop-rows.invariant c.requires.stageable c.if-piece-i.false in
+    let turn = staging_front c.args.height c.args.bits.now c.args.steps.now c.args.piece.now c.loop-rows.stage c.loop-rows.rows c.loop-rows.i c.loop-rows.invariant c.requires.stageable c.if-i-piece.true in
     turn.known
 
 pub offset_bounds-steps-g : goal.offset_bounds-steps-g
 offset_bounds-steps-g c =
-    let turn = staging_front c.args.height c.args.bits.now c.args.steps.now c.args.piece.now c.loop-rows.stage c.loop-rows.rows c.loop-rows.i c.loop-rows.invariant c.requires.stageable c.if-piece-i.false in
+    let turn = staging_front c.args.height c.args.bits.now c.args.steps.now c.args.piece.now c.loop-rows.stage c.loop-rows.rows c.loop-rows.i c.loop-rows.invariant c.requires.stageable c.if-i-piece.true in
     omega (arith, turn)
 
 pub bounds-steps-g : goal.bounds-steps-g
 bounds-steps-g c =
-    let turn = staging_front c.args.height c.args.bits.now c.args.steps.now c.args.piece.now c.loop-rows.stage c.loop-rows.rows c.loop-rows.i c.loop-rows.invariant c.requires.stageable c.if-piece-i.false in
+    let turn = staging_front c.args.height c.args.bits.now c.args.steps.now c.args.piece.now c.loop-rows.stage c.loop-rows.rows c.loop-rows.i c.loop-rows.invariant c.requires.stageable c.if-i-piece.true in
     turn.known
 
 pub offset_bounds-piece-start : goal.offset_bounds-piece-start
 offset_bounds-piece-start c =
-    let turn = staging_front c.args.height c.args.bits.now c.args.steps.now c.args.piece.now c.loop-rows.stage c.loop-rows.rows c.loop-rows.i c.loop-rows.invariant c.requires.stageable c.if-piece-i.false in
+    let turn = staging_front c.args.height c.args.bits.now c.args.steps.now c.args.piece.now c.loop-rows.stage c.loop-rows.rows c.loop-rows.i c.loop-rows.invariant c.requires.stageable c.if-i-piece.true in
     omega (arith, turn)
 
 pub slice_bounds-stage_line-count : goal.slice_bounds-stage_line-count
 slice_bounds-stage_line-count c =
-    let turn = staging_front c.args.height c.args.bits.now c.args.steps.now c.args.piece.now c.loop-rows.stage c.loop-rows.rows c.loop-rows.i c.loop-rows.invariant c.requires.stageable c.if-piece-i.false in
+    let turn = staging_front c.args.height c.args.bits.now c.args.steps.now c.args.piece.now c.loop-rows.stage c.loop-rows.rows c.loop-rows.i c.loop-rows.invariant c.requires.stageable c.if-i-piece.true in
     omega (arith, turn)
 
 pub slice_bounds-stage_line-start : goal.slice_bounds-stage_line-start
 slice_bounds-stage_line-start c =
-    let turn = staging_front c.args.height c.args.bits.now c.args.steps.now c.args.piece.now c.loop-rows.stage c.loop-rows.rows c.loop-rows.i c.loop-rows.invariant c.requires.stageable c.if-piece-i.false in
+    let turn = staging_front c.args.height c.args.bits.now c.args.steps.now c.args.piece.now c.loop-rows.stage c.loop-rows.rows c.loop-rows.i c.loop-rows.invariant c.requires.stageable c.if-i-piece.true in
     omega (arith, turn)
 
 pub slice_bounds-stage_line-end : goal.slice_bounds-stage_line-end
 slice_bounds-stage_line-end c =
-    let turn = staging_front c.args.height c.args.bits.now c.args.steps.now c.args.piece.now c.loop-rows.stage c.loop-rows.rows c.loop-rows.i c.loop-rows.invariant c.requires.stageable c.if-piece-i.false in
+    let turn = staging_front c.args.height c.args.bits.now c.args.steps.now c.args.piece.now c.loop-rows.stage c.loop-rows.rows c.loop-rows.i c.loop-rows.invariant c.requires.stageable c.if-i-piece.true in
     omega (arith, turn)
 
 pub stage_line-requires : goal.stage_line-requires
 stage_line-requires c =
-    let turn = staging_front c.args.height c.args.bits.now c.args.steps.now c.args.piece.now c.loop-rows.stage c.loop-rows.rows c.loop-rows.i c.loop-rows.invariant c.requires.stageable c.if-piece-i.false in
+    let turn = staging_front c.args.height c.args.bits.now c.args.steps.now c.args.piece.now c.loop-rows.stage c.loop-rows.rows c.loop-rows.i c.loop-rows.invariant c.requires.stageable c.if-i-piece.true in
     let a = c.args in
     let l = c.loop-rows in
     let t = turn in
@@ -114,7 +108,7 @@ loop-rows-smaller c =
 
 pub loop-rows-preserved : goal.loop-rows-preserved
 loop-rows-preserved c =
-    let turn = staging_front c.args.height c.args.bits.now c.args.steps.now c.args.piece.now c.loop-rows.stage c.loop-rows.rows c.loop-rows.i c.loop-rows.invariant c.requires.stageable c.if-piece-i.false in
+    let turn = staging_front c.args.height c.args.bits.now c.args.steps.now c.args.piece.now c.loop-rows.stage c.loop-rows.rows c.loop-rows.i c.loop-rows.invariant c.requires.stageable c.if-i-piece.true in
     let a = c.args in
     let l = c.loop-rows in
     let w = c.stage_line in
@@ -122,8 +116,14 @@ loop-rows-preserved c =
     staging_next a.height a.bits.now a.steps.now a.piece.now l.stage l.rows l.i l.invariant turn c.loop-rows-test.true _ w.ensures.stage_len c.requires.height_bound.0
     (λ path q. rw (e, q.digits_are) at w.ensures.stage_after)
 
-pub returns : goal.returns
-returns c =
+pub returns-else-i-piece : goal.returns-else-i-piece
+returns-else-i-piece c =
+    let a = c.args in
+    let l = c.loop-rows in
+    staging_done a.height a.bits.now a.steps.now a.piece.now l.stage l.rows l.i l.invariant (inr c.if-i-piece.false)
+
+pub returns-after-loop-rows : goal.returns-after-loop-rows
+returns-after-loop-rows c =
     let a = c.args in
     let l = c.loop-rows in
     staging_done a.height a.bits.now a.steps.now a.piece.now l.stage l.rows l.i l.invariant (inl c.loop-rows-test.false)

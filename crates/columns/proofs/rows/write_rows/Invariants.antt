@@ -4,7 +4,7 @@ use Rattle.columns.proofs.StageLoop.{Writing}
 use Rattle.columns.proofs.rows.write_rows.Given as goal
 
 abbrev pub invariant-loop-i : goal.invariant-loop-i
-invariant-loop-i l = Writing l.height l.trace l.count l.piece l.initial.constants l.bits l.steps l.constants l.stage l.row l.i
+invariant-loop-i l = Writing l.height l.trace l.count l.piece l.initial.constants l.gates.bits l.gates.steps l.constants l.stage l.row l.i
 
 abbrev pub decreases-loop-i : goal.decreases-loop-i
 decreases-loop-i l = length l.piece - l.i

@@ -1,24 +1,21 @@
 -- `columns::sections::contents_number` meets its contract: 19, then the circuit's own number.
-use Rattle.std.proofs.Common.{◌≡◌, sym, ◌∙◌, eq-eqb, ne_eqb}
+use Rattle.std.proofs.Common.{sym, ◌∙◌, eq-eqb, ne_eqb}
 use Rattle.base.specs.Pick.{pick_yes, pick_no}
-use Rattle.tree.specs.Plan.{gate_rows_answer, plan_fault}
-use Rattle.columns.proofs.RowLoop.{gates-number}
+use Rattle.refusal.proofs.Passing.{passed_up}
+use Rattle.tree.specs.Plan.{plan_fault}
+use Rattle.columns.proofs.RowLoop.{gates-sound, gates_refused}
 use Rattle.columns.proofs.sections.contents_number.Goals as goal
 
-pub returns-then-gates-ne0 : goal.returns-then-gates-ne0
-returns-then-gates-ne0 c =
-    let answer-is : c.parts_rows-gates.result ≡ gate_rows_answer c.args.plan = c.parts_rows-gates.ensures ∙ rw c.outline.ensures in
+pub returns-in_err-gates : goal.returns-in_err-gates
+returns-in_err-gates c =
     let q = c.args.plan in
-    sym (pick_no _ _ 19 (ne_eqb (plan_fault q) 0 (λ z. c.if-gates-ne0.true ((gates-number q c.parts_rows-gates.result answer-is).1 z))))
+    let told = gates_refused q _ (c.in_err-gates.ensures.number ∙ rw c.parts.ensures) in
+    passed_up c.from_residual.result _ c.from_residual.ensures.1 ∙ told.1 ∙ sym (pick_no _ _ 19 (ne_eqb (plan_fault q) 0 told.0))
 
 pub contents_of-requires : goal.contents_of-requires
-contents_of-requires c =
-    let answer-is : c.parts_rows-gates.result ≡ gate_rows_answer c.args.plan = c.parts_rows-gates.ensures ∙ rw c.outline.ensures in
-    let no_fault : plan_fault c.args.plan ≡ 0 = (gates-number c.args.plan c.parts_rows-gates.result answer-is).0 c.if-gates-ne0.false in
-    (no_fault, answer-is)
+contents_of-requires c = (gates-sound c.args.plan (c.in_ok-gates.ensures.number ∙ rw c.parts.ensures), c.in_ok-gates.ensures.rows ∙ rw c.parts.ensures)
 
 pub returns : goal.returns
 returns c =
-    let answer-is : c.parts_rows-gates.result ≡ gate_rows_answer c.args.plan = c.parts_rows-gates.ensures ∙ rw c.outline.ensures in
-    let no_fault : plan_fault c.args.plan ≡ 0 = (gates-number c.args.plan c.parts_rows-gates.result answer-is).0 c.if-gates-ne0.false in
+    let no_fault = gates-sound c.args.plan (c.in_ok-gates.ensures.number ∙ rw c.parts.ensures) in
     c.contents_of.ensures ∙ sym (pick_yes _ _ 19 (eq-eqb (plan_fault c.args.plan) 0 no_fault))

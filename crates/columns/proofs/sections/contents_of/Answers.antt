@@ -8,6 +8,7 @@ use Rattle.columns.specs.GivenLaws.{small}
 use Rattle.columns.specs.Intake.{setting_of}
 use Rattle.columns.specs.Sections.{pieces_fault, last_tests, after_pieces, contents_number}
 use Rattle.columns.specs.SectionsLaws.{or_assoc, last_same}
+use Rattle.refusal.proofs.Passing.{passed_up, refusal_nonzero}
 use Rattle.columns.proofs.sections.contents_of.Goals as goal
 
 -- labels and sections together, then the last tests
@@ -16,14 +17,15 @@ parted : (x : Setting) (rows s_words cells tables : List ℕ)
 unfolding contents_number
 parted x rows s_words cells tables = sym (or_assoc _ _ _)
 
-pub test_pieces-tested-requires : goal.test_pieces-tested-requires
-test_pieces-tested-requires c = (c.requires.0, c.requires.1, (sound c.args.plan c.requires.0).ranges.long)
+pub test_pieces-requires : goal.test_pieces-requires
+test_pieces-requires c = (c.requires.0, c.requires.1, (sound c.args.plan c.requires.0).ranges.long)
 
-pub returns-then-tested-ne0 : goal.returns-then-tested-ne0
-returns-then-tested-ne0 c =
+pub returns-in_err-given : goal.returns-in_err-given
+returns-in_err-given c =
     let a = c.args in
-    let e = c.test_pieces-tested.ensures.number_value in
-    e ∙ sym (parted (setting_of a.plan) a.rows.now a.s_words.now a.cells.now a.tables.now ∙ first_found _ _ (λ z. c.if-tested-ne0.true (e ∙ z)))
+    let up = passed_up c.from_residual.result _ c.from_residual.ensures.1 in
+    let e = c.in_err-given.ensures.number_value in
+    up ∙ (e ∙ sym (parted (setting_of a.plan) a.rows.now a.s_words.now a.cells.now a.tables.now ∙ first_found _ _ (λ z. refusal_nonzero _ (e ∙ z))))
 
 pub last_tests-requires : goal.last_tests-requires
 last_tests-requires c =
@@ -33,19 +35,18 @@ last_tests-requires c =
 pub returns : goal.returns
 returns c =
     let a = c.args in
-    let t = c.test_pieces-tested in
-    let m = t.ensures.rows_value c.if-tested-ne0.false in
+    let m = c.in_ok-given.ensures.rows_value in
     let s : State =
     record {
-      row_count = t.result.rows;
+      row_count = c.in_ok-given.given;
       word_count = length a.s_words.now;
       cell_count = length a.cells.now;
       table_count = 0;
       stacked = 0;
-      used = t.new.used;
+      used = c.test_pieces.new.used;
       phase = 1;
     } in
     c.last_tests.ensures a.plan.gates a.plan.nodes
     ∙ rw c.outline.ensures refl
     ∙ last_same (setting_of a.plan) a.rows.now a.s_words.now a.cells.now a.tables.now s m.0 refl refl m.1
-    ∙ sym (parted (setting_of a.plan) a.rows.now a.s_words.now a.cells.now a.tables.now ∙ first-none _ _ (sym t.ensures.number_value ∙ c.if-tested-ne0.false))
+    ∙ sym (parted (setting_of a.plan) a.rows.now a.s_words.now a.cells.now a.tables.now ∙ first-none _ _ (sym c.in_ok-given.ensures.number_value))

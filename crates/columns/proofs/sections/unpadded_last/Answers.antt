@@ -45,17 +45,6 @@ all_used-requires c =
     let fine : Sound c.args.plan = sound c.args.plan c.requires.0 in
     fine.few_gates
 
-pub returns-then-all_used : goal.returns-then-all_used
-unfolding unpadded_last
-returns-then-all_used c =
-    let a = c.args in
-    -- the given gate is marked, where there is a mark for it
-    let marks : c.if-gate.used ≡ set a.used a.gate 1 =
-    let l : length a.used ≡ 128 = search rules in
-    elim c.if-gate.branch [ then-gate w ↦ w.used-is | else-gate w ↦ w.used-is ∙ sym (set_out a.used a.gate 1 (omega (arith, w.if-gate.false, l))) ]
-    in
-    sym (pick_yes _ _ 16 (counted a.plan a.height a.s_words a.cells c.if-s_words-plan.false c.if-cells-plan.false) ∙ pick_yes (all_used a.plan.gate_count (set a.used a.gate 1)) 0 17 (ap (all_used a.plan.gate_count) (sym marks) ∙ sym c.all_used.ensures ∙ c.if-all_used.true))
-
 pub returns : goal.returns
 unfolding unpadded_last
 returns c =
@@ -65,4 +54,15 @@ returns c =
     let l : length a.used ≡ 128 = search rules in
     elim c.if-gate.branch [ then-gate w ↦ w.used-is | else-gate w ↦ w.used-is ∙ sym (set_out a.used a.gate 1 (omega (arith, w.if-gate.false, l))) ]
     in
-    sym (pick_yes _ _ 16 (counted a.plan a.height a.s_words a.cells c.if-s_words-plan.false c.if-cells-plan.false) ∙ pick_no (all_used a.plan.gate_count (set a.used a.gate 1)) 0 17 (ap (all_used a.plan.gate_count) (sym marks) ∙ sym c.all_used.ensures ∙ c.if-all_used.false))
+    sym (pick_yes _ _ 16 (counted a.plan a.height a.s_words a.cells c.if-s_words-plan.false c.if-cells-plan.false) ∙ pick_yes (all_used a.plan.gate_count (set a.used a.gate 1)) 0 17 (ap (all_used a.plan.gate_count) (sym marks) ∙ sym c.all_used.ensures ∙ c.if-not-all_used.false))
+
+pub returns-then-not-all_used : goal.returns-then-not-all_used
+unfolding unpadded_last
+returns-then-not-all_used c =
+    let a = c.args in
+    -- the given gate is marked, where there is a mark for it
+    let marks : c.if-gate.used ≡ set a.used a.gate 1 =
+    let l : length a.used ≡ 128 = search rules in
+    elim c.if-gate.branch [ then-gate w ↦ w.used-is | else-gate w ↦ w.used-is ∙ sym (set_out a.used a.gate 1 (omega (arith, w.if-gate.false, l))) ]
+    in
+    sym (pick_yes _ _ 16 (counted a.plan a.height a.s_words a.cells c.if-s_words-plan.false c.if-cells-plan.false) ∙ pick_no (all_used a.plan.gate_count (set a.used a.gate 1)) 0 17 (ap (all_used a.plan.gate_count) (sym marks) ∙ sym c.all_used.ensures ∙ c.if-not-all_used.true))

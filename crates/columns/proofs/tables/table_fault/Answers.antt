@@ -17,17 +17,17 @@ returns-then-words-lt2 c =
 pub returns-then-words-width : goal.returns-then-words-width
 returns-then-words-width c =
     let a = c.args in
-    sym (table-front a.lookup a.width a.trace (stack a.count a.high) a.words.now c.if-words-lt2.false (λ cs. table_width a.lookup a.width a.trace (stack a.count a.high) (get_or a.words.now 0 0) (get_or a.words.now 1 0) cs c.if-lookup.true c.if-words-width.true))
+    sym (table-front a.lookup a.width a.trace (stack a.count a.high) a.words.now c.if-words-lt2.false (λ cs. table_width a.lookup a.width a.trace (stack a.count a.high) (get_or a.words.now 0 0) (get_or a.words.now 1 0) cs c.if-not-lookup.false c.if-words-width.true))
 
 pub returns-then-count-ge-MOST_TABLES : goal.returns-then-count-ge-MOST_TABLES
 returns-then-count-ge-MOST_TABLES c =
     let a = c.args in
-    sym (table-front a.lookup a.width a.trace (stack a.count a.high) a.words.now c.if-words-lt2.false (λ cs. table-count a.lookup a.width a.trace (stack a.count a.high) (get_or a.words.now 0 0) (get_or a.words.now 1 0) cs c.if-lookup.true c.if-words-width.false (omega (arith, c.if-count-ge-MOST_TABLES.true))))
+    sym (table-front a.lookup a.width a.trace (stack a.count a.high) a.words.now c.if-words-lt2.false (λ cs. table-count a.lookup a.width a.trace (stack a.count a.high) (get_or a.words.now 0 0) (get_or a.words.now 1 0) cs c.if-not-lookup.false c.if-words-width.false (omega (arith, c.if-count-ge-MOST_TABLES.true))))
 
 pub returns-then-trace-high : goal.returns-then-trace-high
 returns-then-trace-high c =
     let a = c.args in
-    sym (table-front a.lookup a.width a.trace (stack a.count a.high) a.words.now c.if-words-lt2.false (λ cs. table_past a.lookup a.width a.trace (stack a.count a.high) (get_or a.words.now 0 0) (get_or a.words.now 1 0) cs c.if-lookup.true c.if-words-width.false c.if-count-ge-MOST_TABLES.false (omega (arith, c.if-trace-high.true, c.requires.1))))
+    sym (table-front a.lookup a.width a.trace (stack a.count a.high) a.words.now c.if-words-lt2.false (λ cs. table_past a.lookup a.width a.trace (stack a.count a.high) (get_or a.words.now 0 0) (get_or a.words.now 1 0) cs c.if-not-lookup.false c.if-words-width.false c.if-count-ge-MOST_TABLES.false (omega (arith, c.if-trace-high.true, c.requires.1))))
 
 pub overflow_mul-size : goal.overflow_mul-size
 overflow_mul-size c =
@@ -42,35 +42,35 @@ returns-then-words-size c =
     let k : length a.words.now - 2 < get_or a.words.now 0 0 * get_or a.words.now 1 0 = rw w c.if-words-size.true in
     sym (ap (table_fault a.lookup a.width a.trace (stack a.count a.high)) (front_cut table_size a.words.now c.if-words-lt2.false k) ∙ table-cut a.lookup a.width a.trace (stack a.count a.high))
 
-pub returns-then-all_below : goal.returns-then-all_below
-returns-then-all_below c =
-    let read : front table_size c.args.words.now ≡ whole (get_or c.args.words.now 0 0) (get_or c.args.words.now 1 0) (take (get_or c.args.words.now 0 0 * get_or c.args.words.now 1 0) (drop 2 c.args.words.now)) = let w : get_or c.args.words.now 0 0 ≡ c.args.width = c.if-words-width.false in
-    front_whole table_size c.args.words.now c.if-words-lt2.false (rw w c.if-words-size.false) in
-    let below : c.all_below.result ≡ all_below p (take (get_or c.args.words.now 0 0 * get_or c.args.words.now 1 0) (drop 2 c.args.words.now)) = let w : get_or c.args.words.now 0 0 ≡ c.args.width = c.if-words-width.false in
-    let n = c.args.width * get_or c.args.words.now 1 0 in
-    let q : 2 + n - 2 ≡ n = omega arith in
-    c.all_below.ensures ∙ ap (λ (k : ℕ). all_below p (take k (drop 2 c.args.words.now))) (q ∙ ap (λ (k : ℕ). k * get_or c.args.words.now 1 0) (sym w)) in
-    let a = c.args in
-    let g = get_or a.words.now 0 0 in
-    let n = get_or a.words.now 1 0 in
-    let cs = take (g * n) (drop 2 a.words.now) in
-    sym (ap (table_fault a.lookup a.width a.trace (stack a.count a.high)) (read) ∙ table_good a.lookup a.width a.trace (stack a.count a.high) g n cs (record { looked = c.if-lookup.true; wide = c.if-words-width.false; few = c.if-count-ge-MOST_TABLES.false; room = omega (arith, c.if-trace-high.false, c.requires.1); small = sym (below) ∙ c.if-all_below.true }))
-
-pub returns-then-lookup : goal.returns-then-lookup
-returns-then-lookup c =
-    let read : front table_size c.args.words.now ≡ whole (get_or c.args.words.now 0 0) (get_or c.args.words.now 1 0) (take (get_or c.args.words.now 0 0 * get_or c.args.words.now 1 0) (drop 2 c.args.words.now)) = let w : get_or c.args.words.now 0 0 ≡ c.args.width = c.if-words-width.false in
-    front_whole table_size c.args.words.now c.if-words-lt2.false (rw w c.if-words-size.false) in
-    let below : c.all_below.result ≡ all_below p (take (get_or c.args.words.now 0 0 * get_or c.args.words.now 1 0) (drop 2 c.args.words.now)) = let w : get_or c.args.words.now 0 0 ≡ c.args.width = c.if-words-width.false in
-    let n = c.args.width * get_or c.args.words.now 1 0 in
-    let q : 2 + n - 2 ≡ n = omega arith in
-    c.all_below.ensures ∙ ap (λ (k : ℕ). all_below p (take k (drop 2 c.args.words.now))) (q ∙ ap (λ (k : ℕ). k * get_or c.args.words.now 1 0) (sym w)) in
-    let a = c.args in
-    let g = get_or a.words.now 0 0 in
-    let n = get_or a.words.now 1 0 in
-    let cs = take (g * n) (drop 2 a.words.now) in
-    sym (ap (table_fault a.lookup a.width a.trace (stack a.count a.high)) (read) ∙ table_large a.lookup a.width a.trace (stack a.count a.high) g n cs c.if-lookup.true c.if-words-width.false c.if-count-ge-MOST_TABLES.false (omega (arith, c.if-trace-high.false, c.requires.1)) (sym (below) ∙ c.if-all_below.false))
-
 pub returns : goal.returns
 returns c =
+    let read : front table_size c.args.words.now ≡ whole (get_or c.args.words.now 0 0) (get_or c.args.words.now 1 0) (take (get_or c.args.words.now 0 0 * get_or c.args.words.now 1 0) (drop 2 c.args.words.now)) = let w : get_or c.args.words.now 0 0 ≡ c.args.width = c.if-words-width.false in
+    front_whole table_size c.args.words.now c.if-words-lt2.false (rw w c.if-words-size.false) in
+    let below : c.all_below.result ≡ all_below p (take (get_or c.args.words.now 0 0 * get_or c.args.words.now 1 0) (drop 2 c.args.words.now)) = let w : get_or c.args.words.now 0 0 ≡ c.args.width = c.if-words-width.false in
+    let n = c.args.width * get_or c.args.words.now 1 0 in
+    let q : 2 + n - 2 ≡ n = omega arith in
+    c.all_below.ensures ∙ ap (λ (k : ℕ). all_below p (take k (drop 2 c.args.words.now))) (q ∙ ap (λ (k : ℕ). k * get_or c.args.words.now 1 0) (sym w)) in
     let a = c.args in
-    sym (table_mode a.lookup a.width a.trace (stack a.count a.high) (front table_size a.words.now) c.if-lookup.false)
+    let g = get_or a.words.now 0 0 in
+    let n = get_or a.words.now 1 0 in
+    let cs = take (g * n) (drop 2 a.words.now) in
+    sym (ap (table_fault a.lookup a.width a.trace (stack a.count a.high)) (read) ∙ table_good a.lookup a.width a.trace (stack a.count a.high) g n cs (record { looked = c.if-not-lookup.false; wide = c.if-words-width.false; few = c.if-count-ge-MOST_TABLES.false; room = omega (arith, c.if-trace-high.false, c.requires.1); small = sym (below) ∙ c.if-not-all_below.false }))
+
+pub returns-then-not-all_below : goal.returns-then-not-all_below
+returns-then-not-all_below c =
+    let read : front table_size c.args.words.now ≡ whole (get_or c.args.words.now 0 0) (get_or c.args.words.now 1 0) (take (get_or c.args.words.now 0 0 * get_or c.args.words.now 1 0) (drop 2 c.args.words.now)) = let w : get_or c.args.words.now 0 0 ≡ c.args.width = c.if-words-width.false in
+    front_whole table_size c.args.words.now c.if-words-lt2.false (rw w c.if-words-size.false) in
+    let below : c.all_below.result ≡ all_below p (take (get_or c.args.words.now 0 0 * get_or c.args.words.now 1 0) (drop 2 c.args.words.now)) = let w : get_or c.args.words.now 0 0 ≡ c.args.width = c.if-words-width.false in
+    let n = c.args.width * get_or c.args.words.now 1 0 in
+    let q : 2 + n - 2 ≡ n = omega arith in
+    c.all_below.ensures ∙ ap (λ (k : ℕ). all_below p (take k (drop 2 c.args.words.now))) (q ∙ ap (λ (k : ℕ). k * get_or c.args.words.now 1 0) (sym w)) in
+    let a = c.args in
+    let g = get_or a.words.now 0 0 in
+    let n = get_or a.words.now 1 0 in
+    let cs = take (g * n) (drop 2 a.words.now) in
+    sym (ap (table_fault a.lookup a.width a.trace (stack a.count a.high)) (read) ∙ table_large a.lookup a.width a.trace (stack a.count a.high) g n cs c.if-not-lookup.false c.if-words-width.false c.if-count-ge-MOST_TABLES.false (omega (arith, c.if-trace-high.false, c.requires.1)) (sym (below) ∙ c.if-not-all_below.true))
+
+pub returns-then-not-lookup : goal.returns-then-not-lookup
+returns-then-not-lookup c =
+    let a = c.args in
+    sym (table_mode a.lookup a.width a.trace (stack a.count a.high) (front table_size a.words.now) c.if-not-lookup.true)

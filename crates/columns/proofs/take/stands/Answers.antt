@@ -1,27 +1,37 @@
 -- `columns::take::stands` meets its contract: the plan's test, then the phase's, then the counts'.
-use Rattle.std.proofs.Common.{◌≡◌, sym, ◌∙◌}
-use Rattle.tree.specs.Plan.{plan_fault, plan_in}
-use Rattle.columns.specs.Given.{intake_in}
+use Rattle.std.proofs.Common.{sym, ◌∙◌}
+use Rattle.base.specs.Pick.{pick_yes, pick_no}
+use Rattle.refusal.proofs.Passing.{passed_up}
+use Rattle.tree.specs.Plan.{parts_plan}
+use Rattle.columns.specs.Intake.{state_in, with_state}
 use Rattle.columns.specs.GivenLaws.{small}
 use Rattle.columns.specs.IntakeLaws.{falls_plan, falls_phase, stands_counts}
+use Rattle.columns.proofs.Standing.{made-up}
 use Rattle.columns.proofs.take.stands.Goals as goal
 
-pub returns-then-parts_fault-ne0 : goal.returns-then-parts_fault-ne0
-returns-then-parts_fault-ne0 c us =
-    sym (falls_plan (intake_in c.args.outline c.args.gates.now c.args.nodes.now c.args.counts us) (λ z. c.if-parts_fault-ne0.true (c.parts_fault.ensures ∙ z)))
+pub returns-in_err-fault : goal.returns-in_err-fault
+returns-in_err-fault c us =
+    let q = parts_plan c.args.parts in
+    let m = made-up q c.in_err-fault.field-0.0 c.in_err-fault.ensures in
+    passed_up c.from_residual.result _ c.from_residual.ensures.1 ∙ m.1 ∙ sym (pick_no _ 0 19 (falls_plan (with_state q (state_in c.args.counts us)) m.0))
 
 pub returns-then-counts-ne-OPEN : goal.returns-then-counts-ne-OPEN
 returns-then-counts-ne-OPEN c us =
     let a = c.args in
-    let no_fault : plan_fault (plan_in a.outline a.gates.now a.nodes.now) ≡ 0 = sym c.parts_fault.ensures ∙ c.if-parts_fault-ne0.false in
-    sym (falls_phase (intake_in a.outline a.gates.now a.nodes.now a.counts us) no_fault c.if-counts-ne-OPEN.true)
+    sym (pick_no _ 0 19 (falls_phase (with_state (parts_plan a.parts) (state_in a.counts us)) (sym c.in_ok-fault.ensures) c.if-counts-ne-OPEN.true))
 
 pub counts_fit-requires : goal.counts_fit-requires
 counts_fit-requires c =
-    let a = c.args in small a.outline a.gates.now a.nodes.now (sym c.parts_fault.ensures ∙ c.if-parts_fault-ne0.false)
+    let p = c.args.parts in small p.outline p.gates.now p.nodes.now (sym c.in_ok-fault.ensures)
+
+pub returns-then-not-counts_fit : goal.returns-then-not-counts_fit
+returns-then-not-counts_fit c us =
+    let a = c.args in
+    let p = a.parts in
+    sym (pick_no _ 0 19 (stands_counts (with_state (parts_plan p) (state_in a.counts us)) (sym c.in_ok-fault.ensures) c.if-counts-ne-OPEN.false ∙ sym (c.counts_fit.ensures p.gates.now p.nodes.now us) ∙ c.if-not-counts_fit.true))
 
 pub returns : goal.returns
 returns c us =
     let a = c.args in
-    let no_fault : plan_fault (plan_in a.outline a.gates.now a.nodes.now) ≡ 0 = sym c.parts_fault.ensures ∙ c.if-parts_fault-ne0.false in
-    c.counts_fit.ensures a.gates.now a.nodes.now us ∙ sym (stands_counts (intake_in a.outline a.gates.now a.nodes.now a.counts us) no_fault c.if-counts-ne-OPEN.false)
+    let p = a.parts in
+    sym (pick_yes _ 0 19 (stands_counts (with_state (parts_plan p) (state_in a.counts us)) (sym c.in_ok-fault.ensures) c.if-counts-ne-OPEN.false ∙ sym (c.counts_fit.ensures p.gates.now p.nodes.now us) ∙ c.if-not-counts_fit.false))
