@@ -35,8 +35,8 @@ fn meet(
         return false;
     }
     marks[g] = 1;
-    let degree = base::greater(most[0], degree_at_depth(gates, gate, level));
-    let constants = base::greater(most[1], constants_of(gates, gate, extra) + level);
+    let degree = most[0].max(degree_at_depth(gates, gate, level));
+    let constants = most[1].max(constants_of(gates, gate, extra) + level);
     most[0] = degree;
     most[1] = constants;
     true

@@ -67,8 +67,10 @@ fn lay<'a>(
     if left == 0 {
         let gate = old[at * NODE_WORDS + 2];
         put_node(new, next, 0, 0, gate);
-        let degree = base::greater(stats.degree, degree_at_depth(gates, gate, level));
-        let constants = base::greater(stats.constants, constants_of(gates, gate, extra) + level);
+        let degree = stats.degree.max(degree_at_depth(gates, gate, level));
+        let constants = stats
+            .constants
+            .max(constants_of(gates, gate, extra) + level);
         return Stats {
             next: next + 1,
             degree: degree,

@@ -8,6 +8,3 @@ use Rattle.tree.proofs.search.place_all.Given as goal
 
 abbrev pub invariant-loop-i : goal.invariant-loop-i
 invariant-loop-i l = Growing (may_stand l.extra l.gates l.target l.bound) l.gates l.many l.base l.order l.initial.nodes l.nodes l.count l.i
-
-abbrev pub decreases-loop-i : goal.decreases-loop-i
-decreases-loop-i l = most_gates - l.i

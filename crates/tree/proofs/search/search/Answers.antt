@@ -10,15 +10,6 @@ use Rattle.tree.proofs.search.search.Goals as goal
 pub arrange-ranged-requires : goal.arrange-ranged-requires
 arrange-ranged-requires c = record { sound = c.requires.sound; order_len = refl }
 
-pub overflow_sub-base : goal.overflow_sub-base
-overflow_sub-base c = omega (arith, c.arrange-ranged.ensures.order_len_2.1)
-
-pub overflow_add-left-2 : goal.overflow_add-left-2
-overflow_add-left-2 c =
-    let r = c.arrange-ranged in
-    let few : exponent (most_gates - r.result.base) ≤ 7 = exponent-least (most_gates - r.result.base) 7 (omega arith) in
-    omega (arith, c.power_above-levels.ensures.0)
-
 pub factor_of-target-requires : goal.factor_of-target-requires
 factor_of-target-requires c =
     let a = c.args in
@@ -58,11 +49,6 @@ returns-then-count-ne0 c =
           (rw (bounds_are a.gates.now a.many a.extra r.new.order r.result.base r.ensures.order_after l.target _ _ r.ensures.order_len_2.0 w.ensures.0 r.ensures.constants_value) at e.stands) c.if-count-ne0.true);
       nodes_len_2 = e.nodes_len;
     }
-
-pub overflow_mul-target : goal.overflow_mul-target
-overflow_mul-target c =
-    let l = c.loop-k in
-    omega (arith, l.invariant.1, cap_all l.k)
 
 pub loop-k-preserved : goal.loop-k-preserved
 loop-k-preserved c =

@@ -7,6 +7,3 @@ use Rattle.tree.proofs.search.search.Given as goal
 
 abbrev pub invariant-loop-k : goal.invariant-loop-k
 invariant-loop-k l = (l.k ≤ targets) × (l.target ≤ cap l.k) × (length l.nodes ≡ node_slots) × (search_tree l.extra l.gates l.many ≡ first_target (within l.gates l.many l.extra) l.k l.target)
-
-abbrev pub decreases-loop-k : goal.decreases-loop-k
-decreases-loop-k l = l.k

@@ -22,24 +22,6 @@ returns-then-count-ne0 c =
     let e = c.place_all-count.ensures in
     record { stands = rw l.invariant.2 (bound_won a.many (each a.gates.now a.order.now a.base a.extra a.target) l.k l.b _ _ c.loop-k-test.true e.stands c.if-count-ne0.true); nodes_len = e.nodes_len }
 
-pub overflow_add-b : goal.overflow_add-b
-overflow_add-b c =
-    let l = c.loop-k in
-    let p = c.requires in
-    omega (arith, l.invariant.0, p.gate_words_in_bounds.1)
-
-pub overflow_sub-k : goal.overflow_sub-k
-overflow_sub-k c =
-    let l = c.loop-k in
-    let p = c.requires in
-    omega (arith, l.invariant.0, p.gate_words_in_bounds.1)
-
-pub loop-k-smaller : goal.loop-k-smaller
-loop-k-smaller c =
-    let l = c.loop-k in
-    let p = c.requires in
-    omega (arith, l.invariant.0, p.gate_words_in_bounds.1)
-
 pub loop-k-preserved : goal.loop-k-preserved
 loop-k-preserved c =
     let l = c.loop-k in

@@ -12,6 +12,3 @@ each gates order base extra target b = grown (may_stand extra gates target b) (d
 abbrev pub invariant-loop-k : goal.invariant-loop-k
 invariant-loop-k l = (l.b + l.k ≡ l.bound + l.left) × (length l.nodes ≡ node_slots)
     × (first_bound (each l.gates l.order l.base l.extra l.target) l.left l.bound ≡ first_bound (each l.gates l.order l.base l.extra l.target) l.k l.b)
-
-abbrev pub decreases-loop-k : goal.decreases-loop-k
-decreases-loop-k l = l.k
