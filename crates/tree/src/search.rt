@@ -30,6 +30,7 @@ pub struct Offer {
 }
 
 // Whether a gate may stand at a depth: degree within the target, constants plus depth within the bound.
+#[tactic(auto, using(crate::proofs::TestLaws::tests), unfolding(selector::specs::Search::may_stand, selector::specs::Gates::degree_at))]
 fn may_stand(gates: &[u64], gate: u64, depth: u64, offer: Offer) -> bool
     requires { gate * gate_words + 2 < length gates.now }
     ensures { result ≡ fits_offer gates.now offer gate depth }

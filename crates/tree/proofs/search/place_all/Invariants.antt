@@ -1,7 +1,5 @@
 -- `search::place_all` meets its contract. The loop offers the gates after the first; its invariant is that the flat run of the whole list is that of
 -- what is left, from the nodes at hand. The flat run is the definition's by `flat_grows`.
-use Rattle.std.proofs.Common.{◌-◌}
-use Rattle.base.specs.Limits.{most_gates}
 use Rattle.selector.specs.Search.{may_stand}
 use Rattle.tree.proofs.SearchLaws.{Growing}
 use Rattle.tree.proofs.search.place_all.Given as goal
