@@ -35,8 +35,8 @@ try_add_gate-returns-then-nodes-at-eq0-clause-value t c =
     let leaf = node_leaf f a.offer.gate a.nodes.now a.count a.levels a.depth a.at c.if-levels-eq0.false c.if-nodes-at-eq0.true in
     ap (λ (q : Placed). q.count)
     (sym (leaf ∙ elim c.else-may_stand.branch [
-      try_add_gate-else-may_stand-via-then-may_stand+else-may_stand-2 w ↦ leaf_new f a.offer.gate a.nodes.now a.count a.depth a.at (sym c.may_stand.ensures ∙ w.if-may_stand.true) (sym w.may_stand-then-may_stand.ensures ∙ w.if-may_stand-2.false)
-    | try_add_gate-else-may_stand-via-else-may_stand w ↦ leaf_old f a.offer.gate a.nodes.now a.count a.depth a.at (sym c.may_stand.ensures ∙ w.if-may_stand.false)
+      | try_add_gate-else-may_stand-via-then-may_stand+else-may_stand-2 w ↦ leaf_new f a.offer.gate a.nodes.now a.count a.depth a.at (sym c.may_stand.ensures ∙ w.if-may_stand.true) (sym w.may_stand-then-may_stand.ensures ∙ w.if-may_stand-2.false)
+      | try_add_gate-else-may_stand-via-else-may_stand w ↦ leaf_old f a.offer.gate a.nodes.now a.count a.depth a.at (sym c.may_stand.ensures ∙ w.if-may_stand.false)
     ]))
 
 pub try_add_gate-returns-then-nodes-at-eq0-clause-nodes_after : goal.try_add_gate-returns-then-nodes-at-eq0-clause-nodes_after
@@ -46,8 +46,8 @@ try_add_gate-returns-then-nodes-at-eq0-clause-nodes_after t c =
     let leaf = node_leaf f a.offer.gate a.nodes.now a.count a.levels a.depth a.at c.if-levels-eq0.false c.if-nodes-at-eq0.true in
     ap (λ (q : Placed). q.nodes)
     (sym (leaf ∙ elim c.else-may_stand.branch [
-      try_add_gate-else-may_stand-via-then-may_stand+else-may_stand-2 w ↦ leaf_new f a.offer.gate a.nodes.now a.count a.depth a.at (sym c.may_stand.ensures ∙ w.if-may_stand.true) (sym w.may_stand-then-may_stand.ensures ∙ w.if-may_stand-2.false)
-    | try_add_gate-else-may_stand-via-else-may_stand w ↦ leaf_old f a.offer.gate a.nodes.now a.count a.depth a.at (sym c.may_stand.ensures ∙ w.if-may_stand.false)
+      | try_add_gate-else-may_stand-via-then-may_stand+else-may_stand-2 w ↦ leaf_new f a.offer.gate a.nodes.now a.count a.depth a.at (sym c.may_stand.ensures ∙ w.if-may_stand.true) (sym w.may_stand-then-may_stand.ensures ∙ w.if-may_stand-2.false)
+      | try_add_gate-else-may_stand-via-else-may_stand w ↦ leaf_old f a.offer.gate a.nodes.now a.count a.depth a.at (sym c.may_stand.ensures ∙ w.if-may_stand.false)
     ]))
 
 pub try_add_gate-try_add_to_sides-requires : goal.try_add_gate-try_add_to_sides-requires
