@@ -1,5 +1,6 @@
 // 01's test for a made-up plan (19), as far as its nodes, D, K and F go.
 ghost use Rattle.std.specs.Prelude.{◌≡◌, true, ℕ, ◌+◌, ◌*◌, ◌≤◌, ◌<◌, length, get_or};
+ghost use Rattle.base.specs.Pick.{pick};
 ghost use Rattle.base.specs.Limits.{most_gates};
 ghost use Rattle.selector.specs.Gates.{gate_words};
 ghost use Rattle.selector.specs.Inner.{Sound};
@@ -100,13 +101,13 @@ fn linked(nodes: &[u64], count: usize) -> bool
     true
 }
 
-// How often a listed gate has to stand at a leaf.
+// Whether a listed gate has to stand at a leaf.
 #[tactic(auto, using(crate::proofs::TestLaws::tests), unfolding(selector::specs::MadeUp::wanted))]
-pub(crate) fn wanted_of(gates: &[u64], many: usize, gate: usize) -> u64
+pub(crate) fn is_wanted(gates: &[u64], many: usize, gate: usize) -> bool
     requires { gate * gate_words < length gates.now }
-    ensures { result ≡ wanted gates.now many gate }
+    ensures { pick result 1 0 ≡ wanted gates.now many gate }
 {
-    u64::from(many == 1 || gates[gate * GATE_WORDS] != 2)
+    many == 1 || gates[gate * GATE_WORDS] != 2
 }
 
 fn as_wanted<'a>(gates: &'a [u64], marks: &'a Marks, many: usize) -> bool
@@ -114,7 +115,7 @@ fn as_wanted<'a>(gates: &'a [u64], marks: &'a Marks, many: usize) -> bool
     ensures { result ≡ as_wanted many gates.now many (λ (g : ℕ). get_or marks.now g 0) 0 }
 {
     for g in 0..many {
-        if marks[g] != wanted_of(gates, many, g) {
+        if marks[g] != u64::from(is_wanted(gates, many, g)) {
             return false;
         }
     }

@@ -73,8 +73,8 @@ fn lay<'a>(
             .max(constants_of(gates, gate, extra) + level);
         return Stats {
             next: next + 1,
-            degree: degree,
-            constants: constants,
+            degree,
+            constants,
         };
     }
     let inner = Stats {
@@ -120,6 +120,6 @@ pub(crate) fn shape_of(gates: &[u64], many: usize, extra: u64) -> Shape
         count: done.next as u64,
         degree: done.degree,
         constants: done.constants,
-        factor: factor,
+        factor,
     }
 }

@@ -1,9 +1,9 @@
 -- `made_up::meet` meets its contract: its tests are the definition's.
-use Rattle.std.proofs.Common.{◌+◌, max, ℕ, true, List, ◌≡◌, ◌∙◌, ap, sym, arith, length, get_or, set, length-set, get_or-set_same, get_or-set_other}
+use Rattle.std.proofs.Common.{◌+◌, max, ℕ, true, ◌≡◌, ◌∙◌, ap, sym, arith}
 use Rattle.selector.proofs.RecordLaws.{constants-small, degree_small}
 use Rattle.selector.proofs.WalkLaws.{meet_far, meet-new, meet_twice}
 use Rattle.selector.specs.Gates.{constants_of, degree_at}
-use Rattle.tree.specs.Walks.{walk, Most}
+use Rattle.tree.specs.Walks.{walk}
 use Rattle.tree.proofs.made_up.meet.Goals as goal
 
 pub returns-then-many-gate : goal.returns-then-many-gate

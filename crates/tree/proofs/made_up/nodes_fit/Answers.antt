@@ -1,5 +1,5 @@
 -- `made_up::nodes_fit` meets its contract. The links are tested first; then the walk with marks, which asks in the end what the definition asks (`fit_by`).
-use Rattle.std.proofs.Common.{◌∙◌, refl, sym, arith}
+use Rattle.std.proofs.Common.{◌∙◌, sym, arith}
 use Rattle.selector.proofs.MadeUpLaws.{links}
 use Rattle.selector.proofs.WalkLaws.{fit_by, fit_many, fit_none, fit_unlinked}
 use Rattle.tree.specs.Walks.{walk}
@@ -12,9 +12,9 @@ returns-then-count-eq0 c =
     let gs = a.gates.now in
     let t = a.told in
     elim c.then-count-eq0.branch [
-      then-count-eq0-via-then-count-eq0 w ↦ sym (fit_none a.extra gs a.many a.nodes.now a.count t.degree t.constants t.factor w.if-count-eq0.true)
-    | then-count-eq0-via-else-count-eq0+then-count-gt-MOST_NODES w ↦ sym (fit_many a.extra gs a.many a.nodes.now a.count t.degree t.constants t.factor w.if-count-gt-MOST_NODES.true)
-    | then-count-eq0-via-else-count-eq0+else-count-gt-MOST_NODES+then-not-linked w ↦ sym (fit_unlinked a.extra gs a.many a.nodes.now a.count t.degree t.constants t.factor (sym w.linked.ensures ∙ w.if-not-linked.true))
+      | then-count-eq0-via-then-count-eq0 w ↦ sym (fit_none a.extra gs a.many a.nodes.now a.count t.degree t.constants t.factor w.if-count-eq0.true)
+      | then-count-eq0-via-else-count-eq0+then-count-gt-MOST_NODES w ↦ sym (fit_many a.extra gs a.many a.nodes.now a.count t.degree t.constants t.factor w.if-count-gt-MOST_NODES.true)
+      | then-count-eq0-via-else-count-eq0+else-count-gt-MOST_NODES+then-not-linked w ↦ sym (fit_unlinked a.extra gs a.many a.nodes.now a.count t.degree t.constants t.factor (sym w.linked.ensures ∙ w.if-not-linked.true))
     ]
 
 pub visit-requires-clause-links : goal.visit-requires-clause-links
