@@ -161,11 +161,10 @@ kind_given : (q : Plan) (g : ℕ) → g < q.gate_count → kind_of q.gates g ≡
 kind_given q g h = sym (get_or-take (q.gate_count * gate_words) q.gates (g * gate_words) 0 (omega arith))
 
 -- whether the all-0 path is a kind 1 gate's, by the bits of all paths
-pub blocked-given : (q : Plan) (b : ℕ) (bits : List ℕ) → plan_fault q ≡ 0 → bits ≡ for_listed q (λ (g : ℕ). selection_bits (plan_selection q g))
-    → b ≡ pick (marker_ends (λ (g : ℕ). eqb (get_or bits g 0) 0) q.gates q.gate_count) 0 1 → b ≡ pick (plan_blocked q) 1 0
+pub blocked-given : (q : Plan) (b : Bool) (bits : List ℕ) → plan_fault q ≡ 0 → bits ≡ for_listed q (λ (g : ℕ). selection_bits (plan_selection q g))
+    → b ≡ pick (marker_ends (λ (g : ℕ). eqb (get_or bits g 0) 0) q.gates q.gate_count) false true → b ≡ plan_blocked q
 blocked-given q b bits f is e =
-    e ∙ ap (λ (t : Bool). pick t 0 1) (ends_same _ (λ (g : ℕ). eqb (noughts (plan_path q g)) 1) q.gates (gates_given q) n (λ g h. (kind_given q g h, at g h)))
-    ∙ by (marker_ends (λ (g : ℕ). eqb (noughts (plan_path q g)) 1) (gates_given q) n)
+    e ∙ ap (λ (t : Bool). pick t false true) (ends_same _ (λ (g : ℕ). eqb (noughts (plan_path q g)) 1) q.gates (gates_given q) n (λ g h. (kind_given q g h, at g h)))
   where
     n : ℕ
     n = q.gate_count
@@ -178,19 +177,15 @@ blocked-given q b bits f is e =
     at : (g : ℕ) → g < n → eqb (get_or bits g 0) 0 ≡ eqb (noughts (plan_path q g)) 1
     at g h = ap (λ (w : ℕ). eqb w 0) (word g h) ∙ noughts_bits (plan_path q g)
 
-    by : (t : Bool) → ◌≡◌ {A = ℕ} (pick t 0 1) (pick (pick t false true) 1 0)
-    by true = refl
-    by false = refl
-
 -- and whose rows are turned away
-pub barred-given : (q : Plan) (b : ℕ) → b ≡ pick (plan_blocked q) 1 0 → (g : ℕ) → g < q.gate_count
-    → b * (1 - wanted q.gates q.gate_count g) ≡ pick (plan_barred q g) 1 0
+pub barred-given : (q : Plan) (b : Bool) → b ≡ plan_blocked q → (g : ℕ) → g < q.gate_count
+    → pick b (1 - wanted q.gates q.gate_count g) 0 ≡ pick (plan_barred q g) 1 0
 unfolding wanted
 barred-given q b e g h =
     rw (← get_or-take (q.gate_count * gate_words) q.gates (g * gate_words) 0 (omega arith), e)
     (by (wanted (gates_given q) q.gate_count g) (plan_blocked q) (wanted_few (gates_given q) q.gate_count g))
   where
-    by : (w : ℕ) (t : Bool) → w ≤ 1 → pick t 1 0 * (1 - w) ≡ pick (pick (ltb 0 w) false t) 1 0
+    by : (w : ℕ) (t : Bool) → w ≤ 1 → pick t (1 - w) 0 ≡ pick (pick (ltb 0 w) false t) 1 0
     by zero true k = refl
     by zero false k = refl
     by (suc zero) true k = refl

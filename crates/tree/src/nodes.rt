@@ -67,12 +67,14 @@ fn lay<'a>(
     if left == 0 {
         let gate = old[at * NODE_WORDS + 2];
         put_node(new, next, 0, 0, gate);
-        let degree = base::greater(stats.degree, degree_at_depth(gates, gate, level));
-        let constants = base::greater(stats.constants, constants_of(gates, gate, extra) + level);
+        let degree = stats.degree.max(degree_at_depth(gates, gate, level));
+        let constants = stats
+            .constants
+            .max(constants_of(gates, gate, extra) + level);
         return Stats {
             next: next + 1,
-            degree: degree,
-            constants: constants,
+            degree,
+            constants,
         };
     }
     let inner = Stats {
@@ -118,6 +120,6 @@ pub(crate) fn shape_of(gates: &[u64], many: usize, extra: u64) -> Shape
         count: done.next as u64,
         degree: done.degree,
         constants: done.constants,
-        factor: factor,
+        factor,
     }
 }

@@ -106,12 +106,10 @@ fn top_constants(gates: &[u64], many: usize, extra: u64) -> u64
     requires { many * gate_words ≤ length gates.now }
     ensures { result ≡ top_constants extra gates.now (placed_gates gates.now many) }
 {
-    let mut g = many;
-    let mut constants: u64 = 0;
-    while 0 < g {
-        g = g - 1;
+    let mut constants = 0;
+    for g in (0..many).rev() {
         if gates[g * GATE_WORDS] != 2 {
-            constants = base::greater(constants_of(gates, g as u64, extra), constants);
+            constants = constants_of(gates, g as u64, extra).max(constants);
         }
     }
     constants

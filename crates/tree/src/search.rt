@@ -30,25 +30,18 @@ pub struct Offer {
 }
 
 // Whether a gate may stand at a depth: degree within the target, constants plus depth within the bound.
+#[tactic(auto, using(crate::proofs::TestLaws::tests), unfolding(selector::specs::Search::may_stand, selector::specs::Gates::degree_at))]
 fn may_stand(gates: &[u64], gate: u64, depth: u64, offer: Offer) -> bool
     requires { gate * gate_words + 2 < length gates.now }
     ensures { result ≡ fits_offer gates.now offer gate depth }
 {
-    if offer.bound < depth {
-        return false;
-    }
-    let constants = constants_of(gates, gate, offer.extra);
-    if offer.bound - depth < constants {
-        return false;
-    }
-    let g = gate as usize;
-    if gates[g * GATE_WORDS] == 3 {
-        return base::greater(depth, 2) <= offer.target;
-    }
-    if offer.target < depth {
-        return false;
-    }
-    gates[g * GATE_WORDS + 1] <= offer.target - depth
+    let at = gate as usize * GATE_WORDS;
+    let fits = if gates[at] == 3 {
+        depth.max(2) <= offer.target
+    } else {
+        depth <= offer.target && gates[at + 1] <= offer.target - depth
+    };
+    fits && depth <= offer.bound && constants_of(gates, gate, offer.extra) <= offer.bound - depth
 }
 
 // The leaf at `at` becomes a fork of two new nodes: its gate left, the new gate right.
@@ -83,11 +76,11 @@ fn try_add_gate(
         return count;
     }
     if nodes[at * NODE_WORDS] == 0 {
-        if may_stand(gates, nodes[at * NODE_WORDS + 2], depth + 1, offer) {
-            if may_stand(gates, offer.gate, depth + 1, offer) {
-                split(nodes, count, at, offer.gate);
-                return count + 2;
-            }
+        if may_stand(gates, nodes[at * NODE_WORDS + 2], depth + 1, offer)
+            && may_stand(gates, offer.gate, depth + 1, offer)
+        {
+            split(nodes, count, at, offer.gate);
+            return count + 2;
         }
         return count;
     }
@@ -141,28 +134,24 @@ fn place_all<'a>(
     }
     let gate = order[base];
     let first = Offer {
-        gate: gate,
-        target: target,
-        bound: bound,
-        extra: extra,
+        gate,
+        target,
+        bound,
+        extra,
     };
     if may_stand(gates, gate, 0, first) {
         put_node(nodes, 0, 0, 0, gate);
-        let mut count: usize = 1;
-        let mut i: usize = base + 1;
-        while i < MOST_GATES {
+        let mut count = 1;
+        for i in base + 1..MOST_GATES {
             let offer = Offer {
                 gate: order[i],
-                target: target,
-                bound: bound,
-                extra: extra,
+                ..first
             };
             let taken = try_add_gate(gates, nodes, count, 0, 0, MOST_LEVELS, offer);
             if taken == count {
                 return 0;
             }
             count = taken;
-            i = i + 1;
         }
         return count;
     }
@@ -187,15 +176,11 @@ fn try_find_placement_for_degree<'a>(
     ensures stands { Stands many (first_bound (λ (b : ℕ). grown (may_stand extra gates.now target b) (drop base order.now)) left bound) nodes.new result }
     ensures nodes_len { length nodes.new ≡ node_slots }
 {
-    let mut b = bound;
-    let mut k = left;
-    while 0 < k {
+    for b in bound..bound + left {
         let count = place_all(gates, order, nodes, many, base, extra, target, b);
         if count != 0 {
             return count;
         }
-        b = b + 1;
-        k = k - 1;
     }
     0
 }
@@ -213,8 +198,7 @@ fn search(gates: &[u64], nodes: &mut Nodes, many: usize, extra: u64) -> usize
     let levels = base::power_above((MOST_GATES - base) as u64);
     let left = levels.exponent + (EXTRA_LEVELS + 1);
     let mut target = factor_of(ranged.degree);
-    let mut k: u64 = TARGETS;
-    while 0 < k {
+    for _ in 0..TARGETS {
         let count = try_find_placement_for_degree(
             gates,
             &order,
@@ -229,8 +213,7 @@ fn search(gates: &[u64], nodes: &mut Nodes, many: usize, extra: u64) -> usize
         if count != 0 {
             return count;
         }
-        target = target * 2;
-        k = k - 1;
+        target *= 2;
     }
     0
 }

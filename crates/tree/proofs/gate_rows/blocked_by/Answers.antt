@@ -1,65 +1,52 @@
--- `gate_rows::blocked_by` meets its contract: the gates that are left decide what all of them decide.
-use Rattle.std.proofs.Common.{◌-◌, ◌<◌, List, ℕ, suc, eq-eqb, ne_eqb, get_or, Bool, ◌∙◌, ◌≡◌, ap, refl, sym, arith}
-use Rattle.base.specs.Pick.{pick}
+-- `gate_rows::blocked_by` meets its contract: none of the gates passed stands at the end of the path of zeros.
+use Rattle.std.proofs.Common.{eqb, ◌≤◌, ℕ, suc, zero, add-one, eq-eqb, ne_eqb, false, true, get_or, Bool, List, ◌∙◌, ◌≡◌, ap, refl, sym, arith}
+use Rattle.base.specs.Pick.{both, pick}
+use Rattle.std.proofs.Math.Decide.{dec_le}
+use Rattle.selector.specs.Gates.{kind_of}
 use Rattle.selector.specs.MarkerLaws.{ends-here, ends_kind, ends_path}
 use Rattle.selector.specs.Markers.{marker_ends}
 use Rattle.tree.proofs.gate_rows.blocked_by.Invariants.{straight}
+use Rattle.tree.proofs.gate_rows.blocked_by.Goals.{else-gates-g-eq1-via-then-gates-g-eq1+else-bits-g-eq0, else-gates-g-eq1-via-else-gates-g-eq1}
 use Rattle.tree.proofs.gate_rows.blocked_by.Goals as goal
 
--- the gate at hand, and those after it
-next : (bits gates : List ℕ) (many left : ℕ) → 0 < left → marker_ends (straight bits) gates many ≡ marker_ends (straight bits) gates left →
-    marker_ends (straight bits) gates many ≡ marker_ends (straight bits) gates (suc (left - 1))
-next bits gates many left h e = e ∙ ap (marker_ends (straight bits) gates) (omega arith)
+-- one among the first gates is one among more of them
+ends_more : (ends : ℕ → Bool) (gs : List ℕ) (k n : ℕ) → k ≤ n → marker_ends ends gs k ≡ true → marker_ends ends gs n ≡ true
+unfolding marker_ends
+ends_more ends gs k zero h e = grind arith
+ends_more ends gs k (suc n) h e = go (dec_le k n) (λ d. ends_more ends gs k n d e)
+  where
+    or_so : (t rest : Bool) → rest ≡ true → pick t true rest ≡ true
+    or_so true rest q = refl
+    or_so false rest q = q
 
-pub loop-left-init : goal.loop-left-init
-loop-left-init c = (omega arith, refl)
+    go : Dec (k ≤ n) → (k ≤ n → marker_ends ends gs n ≡ true) → marker_ends ends gs (suc n) ≡ true
+    go (yes d) rest = or_so (both (eqb (kind_of gs n) 1) (ends n)) (marker_ends ends gs n) (rest d)
+    go (no d) rest = let q : k ≡ suc n = omega arith in rw q at e
 
-pub overflow_sub-left : goal.overflow_sub-left
-overflow_sub-left c = omega (arith, c.loop-left-test.true)
+pub loop-g-init : goal.loop-g-init
+unfolding marker_ends
+loop-g-init c = refl
 
-pub overflow_mul-left : goal.overflow_mul-left
-overflow_mul-left c = omega (arith, c.loop-left.invariant.0, c.requires)
-
-pub offset_bounds-gates-left : goal.offset_bounds-gates-left
-offset_bounds-gates-left c = omega (arith, c.loop-left.invariant.0, c.requires)
-
-pub bounds-gates-left : goal.bounds-gates-left
-bounds-gates-left c = omega (arith, c.loop-left.invariant.0, c.requires, c.loop-left-test.true)
-
-pub offset_bounds-bits-left : goal.offset_bounds-bits-left
-offset_bounds-bits-left c = omega (arith, c.loop-left.invariant.0, c.requires)
-
-pub bounds-bits-left : goal.bounds-bits-left
-bounds-bits-left c = omega (arith, c.loop-left.invariant.0, c.requires, c.loop-left-test.true)
-
-pub returns-then-bits-left-eq0 : goal.returns-then-bits-left-eq0
-returns-then-bits-left-eq0 c =
+pub returns-then-bits-g-eq0 : goal.returns-then-bits-g-eq0
+returns-then-bits-g-eq0 c =
     let a = c.args in
-    let k = c.loop-left.left - 1 in
-    sym (ap (λ (b : Bool). pick b 0 1) (next a.bits.now a.gates.now a.many c.loop-left.left c.loop-left-test.true c.loop-left.invariant.1 ∙ ends-here (straight a.bits.now) a.gates.now k c.if-gates-left-eq1.true (eq-eqb (get_or a.bits.now k 0) 0 c.if-bits-left-eq0.true)))
+    let l = c.loop-g in
+    let ends = straight a.bits.now in
+    let here = ends-here ends a.gates.now l.g c.if-gates-g-eq1.true (eq-eqb (get_or a.bits.now l.g 0) 0 c.if-bits-g-eq0.true) in
+    sym (ap (λ (b : Bool). pick b false true) (ends_more ends a.gates.now (suc l.g) a.many (omega arith) here))
 
-pub loop-left-smaller-else-bits-left-eq0 : goal.loop-left-smaller-else-bits-left-eq0
-loop-left-smaller-else-bits-left-eq0 c = omega (arith, c.loop-left-test.true)
-
-pub loop-left-preserved-else-bits-left-eq0 : goal.loop-left-preserved-else-bits-left-eq0
-loop-left-preserved-else-bits-left-eq0 c =
+pub loop-g-preserved : goal.loop-g-preserved
+loop-g-preserved c =
     let a = c.args in
-    let k = c.loop-left.left - 1 in
-    (omega (arith, c.loop-left.invariant.0), next a.bits.now a.gates.now a.many c.loop-left.left c.loop-left-test.true c.loop-left.invariant.1 ∙ ends_path (straight a.bits.now) a.gates.now k (ne_eqb (get_or a.bits.now k 0) 0 c.if-bits-left-eq0.false))
-
-pub loop-left-smaller : goal.loop-left-smaller
-loop-left-smaller c = omega (arith, c.loop-left-test.true)
-
-pub loop-left-preserved : goal.loop-left-preserved
-loop-left-preserved c =
-    let a = c.args in
-    let k = c.loop-left.left - 1 in
-    (omega (arith, c.loop-left.invariant.0), next a.bits.now a.gates.now a.many c.loop-left.left c.loop-left-test.true c.loop-left.invariant.1 ∙ ends_kind (straight a.bits.now) a.gates.now k c.if-gates-left-eq1.false)
+    let l = c.loop-g in
+    let ends = straight a.bits.now in
+    rw add-one (elim c.else-gates-g-eq1.branch [
+      | else-gates-g-eq1-via-then-gates-g-eq1+else-bits-g-eq0 w ↦ ends_path ends a.gates.now l.g (ne_eqb (get_or a.bits.now l.g 0) 0 w.if-bits-g-eq0.false)
+      | else-gates-g-eq1-via-else-gates-g-eq1 w ↦ ends_kind ends a.gates.now l.g w.if-gates-g-eq1.false
+    ] ∙ l.invariant)
 
 pub returns : goal.returns
-unfolding marker_ends
 returns c =
-    let a = c.args in
-    let l = c.loop-left in
-    let z : l.left ≡ 0 = omega (arith, c.loop-left-test.false) in
-    sym (ap (λ (b : Bool). pick b 0 1) (l.invariant.1 ∙ ap (marker_ends (straight a.bits.now) a.gates.now) z))
+    let l = c.loop-g in
+    let e : l.g ≡ c.args.many = omega arith in
+    sym (ap (λ (b : Bool). pick b false true) (rw e at l.invariant))

@@ -9,22 +9,22 @@ use Rattle.tree.proofs.made_up.+visit.Goals as goal
 pub returns-then-levels-eq0-clause-visited : goal.returns-then-levels-eq0-clause-visited
 returns-then-levels-eq0-clause-visited t c =
     let a = c.args in
-    let w = walk a.marks.now a.most.now true in
+    let w = walk a.met.now true in
     visit_none a.extra a.gates.now a.many a.nodes.now a.at a.level w a.levels (lost w) c.if-levels-eq0.true refl
 
 pub returns-then-left-eq0-clause-visited : goal.returns-then-left-eq0-clause-visited
 returns-then-left-eq0-clause-visited t c =
     let a = c.args in
-    visit_leaf a.extra a.gates.now a.many a.nodes.now a.at a.level (walk a.marks.now a.most.now true) a.levels _ (omega arith) c.if-left-eq0.true c.meet.ensures.result_after
+    visit_leaf a.extra a.gates.now a.many a.nodes.now a.at a.level (walk a.met.now true) a.levels _ (omega arith) c.if-left-eq0.true c.meet.ensures.result_after
 
-pub returns-then-fine-clause-visited : goal.returns-then-fine-clause-visited
-returns-then-fine-clause-visited t c =
+pub returns-then-visit-clause-visited : goal.returns-then-visit-clause-visited
+returns-then-visit-clause-visited t c =
     let a = c.args in
-    let one = c.visit-fine in
-    visit_go a.extra a.gates.now a.many a.nodes.now a.at a.level (walk a.marks.now a.most.now true) a.levels (walk one.new.marks one.new.most true) _ (omega arith) c.if-left-eq0.false (rw c.if-fine.true at one.ensures.visited) refl c.visit.ensures.visited
+    let one = c.visit in
+    visit_go a.extra a.gates.now a.many a.nodes.now a.at a.level (walk a.met.now true) a.levels (walk one.new.met true) _ (omega arith) c.if-left-eq0.false (rw c.if-visit.true at one.ensures.visited) refl c.visit-then-visit.ensures.visited
 
-pub returns-clause-visited : goal.returns-clause-visited
-returns-clause-visited t c =
+pub returns-else-visit-clause-visited : goal.returns-else-visit-clause-visited
+returns-else-visit-clause-visited t c =
     let a = c.args in
-    let one = c.visit-fine in
-    visit_stop a.extra a.gates.now a.many a.nodes.now a.at a.level (walk a.marks.now a.most.now true) a.levels _ (omega arith) c.if-left-eq0.false (rw c.if-fine.false at one.ensures.visited) refl
+    let one = c.visit in
+    visit_stop a.extra a.gates.now a.many a.nodes.now a.at a.level (walk a.met.now true) a.levels _ (omega arith) c.if-left-eq0.false one.ensures.visited c.if-visit.false

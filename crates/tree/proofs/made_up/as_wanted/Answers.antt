@@ -8,30 +8,26 @@ use Rattle.tree.proofs.made_up.as_wanted.Goals as goal
 pub loop-g-init : goal.loop-g-init
 loop-g-init c =
     let a = c.args in
-    (omega arith, wanted_begin a.gates.now a.many (λ h. get_or a.marks.now h 0))
+    wanted_begin a.gates.now a.many (λ h. get_or a.marks.now h 0)
 
-pub wanted_of-requires : goal.wanted_of-requires
-wanted_of-requires c =
-    let a = c.args in
-    let often : ℕ → ℕ = λ h. get_or a.marks.now h 0 in
-    omega (arith, c.requires)
-
-pub returns-then-often-wanted_of : goal.returns-then-often-wanted_of
-returns-then-often-wanted_of c =
+pub returns-then-marks-g : goal.returns-then-marks-g
+returns-then-marks-g c =
+    let is : c.from.result ≡ wanted c.args.gates.now c.args.many c.loop-g.g = grind (arith, c.from.ensures, c.is_wanted.ensures) in
     let l = c.loop-g in
     let a = c.args in
     let gs = a.gates.now in
     let often : ℕ → ℕ = λ h. get_or a.marks.now h 0 in
-    sym (l.invariant.1 ∙ wanted_step gs a.many often (a.many - l.g) l.g (omega (arith, c.loop-g-test.true)) ∙ pick_no (eqb (often l.g) (wanted gs a.many l.g)) _ _ (ne_eqb _ _ (λ z. c.if-often-wanted_of.true (z ∙ sym c.wanted_of.ensures))))
+    sym (l.invariant ∙ wanted_step gs a.many often (a.many - l.g) l.g (omega (arith, c.loop-g-test.true)) ∙ pick_no (eqb (often l.g) (wanted gs a.many l.g)) _ _ (ne_eqb _ _ (λ z. c.if-marks-g.true (z ∙ sym is))))
 
 pub loop-g-preserved : goal.loop-g-preserved
 loop-g-preserved c =
+    let is : c.from.result ≡ wanted c.args.gates.now c.args.many c.loop-g.g = grind (arith, c.from.ensures, c.is_wanted.ensures) in
     let l = c.loop-g in
     let a = c.args in
     let gs = a.gates.now in
     let often : ℕ → ℕ = λ h. get_or a.marks.now h 0 in
     let e : a.many - l.g - 1 ≡ a.many - (l.g + 1) = omega arith in
-    (omega (arith, c.loop-g-test.true), l.invariant.1 ∙ wanted_step gs a.many often (a.many - l.g) l.g (omega (arith, c.loop-g-test.true)) ∙ pick_yes (eqb (often l.g) (wanted gs a.many l.g)) _ _ (eq-eqb _ _ (c.if-often-wanted_of.false ∙ c.wanted_of.ensures)) ∙ ap (λ (z : ℕ). as_wanted z gs a.many often (l.g + 1)) e)
+    l.invariant ∙ wanted_step gs a.many often (a.many - l.g) l.g (omega (arith, c.loop-g-test.true)) ∙ pick_yes (eqb (often l.g) (wanted gs a.many l.g)) _ _ (eq-eqb _ _ (c.if-marks-g.false ∙ is)) ∙ ap (λ (z : ℕ). as_wanted z gs a.many often (l.g + 1)) e
 
 pub returns : goal.returns
 returns c =
@@ -39,4 +35,4 @@ returns c =
     let a = c.args in
     let gs = a.gates.now in
     let often : ℕ → ℕ = λ h. get_or a.marks.now h 0 in
-    sym (l.invariant.1 ∙ wanted-end gs a.many often (a.many - l.g) l.g (omega (arith, c.loop-g-test.false)))
+    sym (l.invariant ∙ wanted-end gs a.many often (a.many - l.g) l.g (omega (arith, c.loop-g-test.false)))

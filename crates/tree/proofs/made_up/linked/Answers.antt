@@ -6,10 +6,14 @@ use Rattle.selector.proofs.MadeUpLaws.{linked_begin, linked_end, linked_step}
 use Rattle.tree.proofs.made_up.linked.Goals as goal
 
 pub loop-i-init : goal.loop-i-init
-loop-i-init c = (omega arith, linked_begin c.args.nodes.now c.args.count)
+loop-i-init c = linked_begin c.args.nodes.now c.args.count
 
-pub linked_at-requires : goal.linked_at-requires
-linked_at-requires c = (c.loop-i-test.true, c.requires.0, c.requires.1)
+pub returns-then-not-linked_at : goal.returns-then-not-linked_at
+returns-then-not-linked_at c =
+    let l = c.loop-i in
+    let a = c.args in
+    let ns = a.nodes.now in
+    sym (l.invariant ∙ linked_step ns a.count (a.count - l.i) l.i (omega (arith, c.loop-i-test.true)) ∙ pick_no (linked_at ns a.count l.i) _ _ (sym c.linked_at.ensures ∙ c.if-not-linked_at.true))
 
 pub loop-i-preserved : goal.loop-i-preserved
 loop-i-preserved c =
@@ -17,18 +21,11 @@ loop-i-preserved c =
     let a = c.args in
     let ns = a.nodes.now in
     let e : a.count - l.i - 1 ≡ a.count - (l.i + 1) = omega arith in
-    (omega (arith, c.loop-i-test.true), l.invariant.1 ∙ linked_step ns a.count (a.count - l.i) l.i (omega (arith, c.loop-i-test.true)) ∙ pick_yes (linked_at ns a.count l.i) _ _ (sym c.linked_at.ensures ∙ c.if-linked_at.true) ∙ ap (λ (z : ℕ). linked_from z ns a.count (l.i + 1)) e)
-
-pub returns-else-linked_at : goal.returns-else-linked_at
-returns-else-linked_at c =
-    let l = c.loop-i in
-    let a = c.args in
-    let ns = a.nodes.now in
-    sym (l.invariant.1 ∙ linked_step ns a.count (a.count - l.i) l.i (omega (arith, c.loop-i-test.true)) ∙ pick_no (linked_at ns a.count l.i) _ _ (sym c.linked_at.ensures ∙ c.if-linked_at.false))
+    l.invariant ∙ linked_step ns a.count (a.count - l.i) l.i (omega (arith, c.loop-i-test.true)) ∙ pick_yes (linked_at ns a.count l.i) _ _ (sym c.linked_at.ensures ∙ c.if-not-linked_at.false) ∙ ap (λ (z : ℕ). linked_from z ns a.count (l.i + 1)) e
 
 pub returns : goal.returns
 returns c =
     let l = c.loop-i in
     let a = c.args in
     let ns = a.nodes.now in
-    sym (l.invariant.1 ∙ linked_end ns a.count (a.count - l.i) l.i (omega (arith, c.loop-i-test.false)))
+    sym (l.invariant ∙ linked_end ns a.count (a.count - l.i) l.i (omega (arith, c.loop-i-test.false)))

@@ -70,8 +70,8 @@ overflow_add-constants_of t c =
 pub returns-then-left-eq0 : goal.returns-then-left-eq0
 returns-then-left-eq0 t c =
     let a = c.args in
-    let d = c.greater-degree.ensures ∙ ap (max a.stats.degree) c.degree_at_depth.ensures in
-    let k = c.greater-constants.ensures ∙ ap (λ (z : ℕ). max a.stats.constants (z + a.level)) c.constants_of.ensures in
+    let d = c.max-degree.ensures ∙ ap (max a.stats.degree) c.degree_at_depth.ensures in
+    let k = c.max-constants.ensures ∙ ap (λ (z : ℕ). max a.stats.constants (z + a.level)) c.constants_of.ensures in
     λ u h q. rw (c.put_node.ensures, d, k) (done_leaf a.extra a.gates.now a.old.now a.at a.level a.stats a.new.now u h c.if-left-eq0.true)
 
 pub lay-done-requires : goal.lay-done-requires

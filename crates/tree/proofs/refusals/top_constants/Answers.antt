@@ -12,7 +12,7 @@ loop-g-preserved-then-gates-g-ne2 c =
     let l = c.loop-g in
     let a = c.args in (
       omega arith,
-      rw (c.greater-constants.ensures, c.constants_of.ensures)
+      rw (c.max-constants.ensures, c.constants_of.ensures)
           (top_more a.extra a.gates.now a.many l.g l.constants l.invariant.0 c.loop-g-test.true c.if-gates-g-ne2.true l.invariant.1),
     )
 

@@ -5,6 +5,3 @@ use Rattle.tree.proofs.refusals.top_constants.Given as goal
 
 abbrev pub invariant-loop-g : goal.invariant-loop-g
 invariant-loop-g l = (l.g ≤ l.many) × (l.constants ≡ top_constants l.extra l.gates (placed_from (l.many - l.g) l.gates l.g))
-
-abbrev pub decreases-loop-g : goal.decreases-loop-g
-decreases-loop-g l = l.g

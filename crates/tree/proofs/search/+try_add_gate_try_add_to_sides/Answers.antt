@@ -5,6 +5,7 @@ use Rattle.selector.specs.Flat.{Placed, offer_fork, offer_node}
 use Rattle.selector.specs.FlatLaws.{fine_at, fine_right, fork_left, fork_right, leaf_new, leaf_old, leaf_yes, node_fork, node_leaf, node_none, refused}
 use Rattle.selector.specs.Nodes.{left_at, right_at}
 use Rattle.tree.specs.Offers.{fits_offer}
+use Rattle.tree.proofs.search.+try_add_gate_try_add_to_sides.Goals.{try_add_gate-else-may_stand-via-then-may_stand+else-may_stand-2, try_add_gate-else-may_stand-via-else-may_stand}
 use Rattle.tree.proofs.search.+try_add_gate_try_add_to_sides.Goals as goal
 
 pub try_add_gate-returns-then-levels-eq0-clause-value : goal.try_add_gate-returns-then-levels-eq0-clause-value
@@ -27,25 +28,27 @@ try_add_gate-returns-then-may_stand-2-clause-nodes_after t c =
     let a = c.args in
     c.split.ensures ∙ ap (λ (q : Placed). q.nodes) (sym (node_leaf (fits_offer a.gates.now a.offer) a.offer.gate a.nodes.now a.count a.levels a.depth a.at c.if-levels-eq0.false c.if-nodes-at-eq0.true ∙ leaf_yes (fits_offer a.gates.now a.offer) a.offer.gate a.nodes.now a.count a.depth a.at (sym c.may_stand.ensures ∙ c.if-may_stand.true) (sym c.may_stand-then-may_stand.ensures ∙ c.if-may_stand-2.true)))
 
-pub try_add_gate-returns-else-may_stand-2-clause-value : goal.try_add_gate-returns-else-may_stand-2-clause-value
-try_add_gate-returns-else-may_stand-2-clause-value t c =
+pub try_add_gate-returns-then-nodes-at-eq0-clause-value : goal.try_add_gate-returns-then-nodes-at-eq0-clause-value
+try_add_gate-returns-then-nodes-at-eq0-clause-value t c =
     let a = c.args in
-    ap (λ (q : Placed). q.count) (sym (node_leaf (fits_offer a.gates.now a.offer) a.offer.gate a.nodes.now a.count a.levels a.depth a.at c.if-levels-eq0.false c.if-nodes-at-eq0.true ∙ leaf_new (fits_offer a.gates.now a.offer) a.offer.gate a.nodes.now a.count a.depth a.at (sym c.may_stand.ensures ∙ c.if-may_stand.true) (sym c.may_stand-then-may_stand.ensures ∙ c.if-may_stand-2.false)))
+    let f = fits_offer a.gates.now a.offer in
+    let leaf = node_leaf f a.offer.gate a.nodes.now a.count a.levels a.depth a.at c.if-levels-eq0.false c.if-nodes-at-eq0.true in
+    ap (λ (q : Placed). q.count)
+    (sym (leaf ∙ elim c.else-may_stand.branch [
+      | try_add_gate-else-may_stand-via-then-may_stand+else-may_stand-2 w ↦ leaf_new f a.offer.gate a.nodes.now a.count a.depth a.at (sym c.may_stand.ensures ∙ w.if-may_stand.true) (sym w.may_stand-then-may_stand.ensures ∙ w.if-may_stand-2.false)
+      | try_add_gate-else-may_stand-via-else-may_stand w ↦ leaf_old f a.offer.gate a.nodes.now a.count a.depth a.at (sym c.may_stand.ensures ∙ w.if-may_stand.false)
+    ]))
 
-pub try_add_gate-returns-else-may_stand-2-clause-nodes_after : goal.try_add_gate-returns-else-may_stand-2-clause-nodes_after
-try_add_gate-returns-else-may_stand-2-clause-nodes_after t c =
+pub try_add_gate-returns-then-nodes-at-eq0-clause-nodes_after : goal.try_add_gate-returns-then-nodes-at-eq0-clause-nodes_after
+try_add_gate-returns-then-nodes-at-eq0-clause-nodes_after t c =
     let a = c.args in
-    ap (λ (q : Placed). q.nodes) (sym (node_leaf (fits_offer a.gates.now a.offer) a.offer.gate a.nodes.now a.count a.levels a.depth a.at c.if-levels-eq0.false c.if-nodes-at-eq0.true ∙ leaf_new (fits_offer a.gates.now a.offer) a.offer.gate a.nodes.now a.count a.depth a.at (sym c.may_stand.ensures ∙ c.if-may_stand.true) (sym c.may_stand-then-may_stand.ensures ∙ c.if-may_stand-2.false)))
-
-pub try_add_gate-returns-else-may_stand-clause-value : goal.try_add_gate-returns-else-may_stand-clause-value
-try_add_gate-returns-else-may_stand-clause-value t c =
-    let a = c.args in
-    ap (λ (q : Placed). q.count) (sym (node_leaf (fits_offer a.gates.now a.offer) a.offer.gate a.nodes.now a.count a.levels a.depth a.at c.if-levels-eq0.false c.if-nodes-at-eq0.true ∙ leaf_old (fits_offer a.gates.now a.offer) a.offer.gate a.nodes.now a.count a.depth a.at (sym c.may_stand.ensures ∙ c.if-may_stand.false)))
-
-pub try_add_gate-returns-else-may_stand-clause-nodes_after : goal.try_add_gate-returns-else-may_stand-clause-nodes_after
-try_add_gate-returns-else-may_stand-clause-nodes_after t c =
-    let a = c.args in
-    ap (λ (q : Placed). q.nodes) (sym (node_leaf (fits_offer a.gates.now a.offer) a.offer.gate a.nodes.now a.count a.levels a.depth a.at c.if-levels-eq0.false c.if-nodes-at-eq0.true ∙ leaf_old (fits_offer a.gates.now a.offer) a.offer.gate a.nodes.now a.count a.depth a.at (sym c.may_stand.ensures ∙ c.if-may_stand.false)))
+    let f = fits_offer a.gates.now a.offer in
+    let leaf = node_leaf f a.offer.gate a.nodes.now a.count a.levels a.depth a.at c.if-levels-eq0.false c.if-nodes-at-eq0.true in
+    ap (λ (q : Placed). q.nodes)
+    (sym (leaf ∙ elim c.else-may_stand.branch [
+      | try_add_gate-else-may_stand-via-then-may_stand+else-may_stand-2 w ↦ leaf_new f a.offer.gate a.nodes.now a.count a.depth a.at (sym c.may_stand.ensures ∙ w.if-may_stand.true) (sym w.may_stand-then-may_stand.ensures ∙ w.if-may_stand-2.false)
+      | try_add_gate-else-may_stand-via-else-may_stand w ↦ leaf_old f a.offer.gate a.nodes.now a.count a.depth a.at (sym c.may_stand.ensures ∙ w.if-may_stand.false)
+    ]))
 
 pub try_add_gate-try_add_to_sides-requires : goal.try_add_gate-try_add_to_sides-requires
 try_add_gate-try_add_to_sides-requires t c =

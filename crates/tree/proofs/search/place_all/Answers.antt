@@ -14,9 +14,6 @@ returns-then-base-ge-MOST_GATES c =
     let p = c.requires in
     record { stands = stands a.extra a.target a.bound a.gates.now a.many a.base a.order.now a.nodes.now p.gate_words_in_bounds.0 p.gate_words_in_bounds.1 p.gate_words_in_bounds.2 p.gate_words_in_bounds.3 p.listed p.distinct _ _ (grow_none (may_stand a.extra a.gates.now a.target a.bound) a.gates.now a.many a.base p.gate_words_in_bounds.0 a.order.now p.gate_words_in_bounds.2 p.listed a.nodes.now a.nodes.now c.if-base-ge-MOST_GATES.true); nodes_len = p.gate_words_in_bounds.3 }
 
-pub bounds-order-base : goal.bounds-order-base
-bounds-order-base c = omega (arith, c.if-base-ge-MOST_GATES.false)
-
 pub may_stand-requires : goal.may_stand-requires
 may_stand-requires c =
     let a = c.args in

@@ -1,5 +1,5 @@
 -- `search::try_find_placement_for_degree` meets its contract: the bounds that are left, from the present one on, have the first tree of all.
-use Rattle.std.proofs.Common.{◌+◌, ℕ, drop, length, List, ◌≡◌}
+use Rattle.std.proofs.Common.{◌+◌, ◌-◌, ℕ, drop, length, List, ◌≡◌}
 use Rattle.std.proofs.Math.Option.{Option}
 use Rattle.selector.specs.Nodes.{node_slots}
 use Rattle.selector.specs.Search.{first_bound, may_stand}
@@ -9,9 +9,6 @@ use Rattle.tree.proofs.search.try_find_placement_for_degree.Given as goal
 abbrev pub each : List ℕ → List ℕ → ℕ → ℕ → ℕ → ℕ → Option Tree
 each gates order base extra target b = grown (may_stand extra gates target b) (drop base order)
 
-abbrev pub invariant-loop-k : goal.invariant-loop-k
-invariant-loop-k l = (l.b + l.k ≡ l.bound + l.left) × (length l.nodes ≡ node_slots)
-    × (first_bound (each l.gates l.order l.base l.extra l.target) l.left l.bound ≡ first_bound (each l.gates l.order l.base l.extra l.target) l.k l.b)
-
-abbrev pub decreases-loop-k : goal.decreases-loop-k
-decreases-loop-k l = l.k
+abbrev pub invariant-loop-b : goal.invariant-loop-b
+invariant-loop-b l = (length l.nodes ≡ node_slots)
+    × (first_bound (each l.gates l.order l.base l.extra l.target) l.left l.bound ≡ first_bound (each l.gates l.order l.base l.extra l.target) (l.bound + l.left - l.b) l.b)

@@ -1,6 +1,6 @@
 -- `plan::Parts::rows` meets its contract: a plan without a fault has a tree at node 0, of which the walk writes all paths over zeros, and its array holds the
 -- words of its gates.
-use Rattle.std.proofs.Common.{◌≤◌, ℕ, eq-eqb, ne_eqb, Bool, false, true, ◌∙◌, ◌≡◌, ap, refl, sym, arith}
+use Rattle.std.proofs.Common.{ℕ, eq-eqb, ne_eqb, ◌∙◌, ◌≡◌, ap, refl, sym, arith}
 use Rattle.base.specs.Pick.{pick}
 use Rattle.refusal.proofs.Passing.{nothing_answered, passed_up}
 use Rattle.selector.specs.Gates.{constants_of}
@@ -45,14 +45,8 @@ pub list_gates-requires : goal.list_gates-requires
 list_gates-requires c =
     let s = parts_plan c.args.self in
     let fine : plan_fault s ≡ 0 = sym c.in_ok-fault.ensures in
-    let walked = paths-placed s (path_words c.all_placements.new.bits c.all_placements.new.lengths) fine c.all_placements.ensures in
-    let blocked-is : c.blocked_by-blocked.result ≡ pick (plan_blocked s) 1 0 = blocked-given s c.blocked_by-blocked.result _ fine walked.0 c.blocked_by-blocked.ensures in
     let w = fault_none s fine in
-    (w.words, w.few_gates, few c.blocked_by-blocked.result (plan_blocked s) blocked-is, refl, refl)
-  where
-    few : (b : ℕ) (t : Bool) → b ≡ pick t 1 0 → b ≤ 1
-    few b true e = omega (arith, e)
-    few b false e = omega (arith, e)
+    (w.words, w.few_gates, refl, refl)
 
 pub returns-clause-number : goal.returns-clause-number
 unfolding gate_rows_answer
@@ -64,7 +58,7 @@ returns-clause-rows c =
     let s = parts_plan c.args.self in
     let fine : plan_fault s ≡ 0 = sym c.in_ok-fault.ensures in
     let walked = paths-placed s (path_words c.all_placements.new.bits c.all_placements.new.lengths) fine c.all_placements.ensures in
-    let blocked-is : c.blocked_by-blocked.result ≡ pick (plan_blocked s) 1 0 = blocked-given s c.blocked_by-blocked.result _ fine walked.0 c.blocked_by-blocked.ensures in
+    let blocked-is : c.blocked_by-blocked.result ≡ plan_blocked s = blocked-given s c.blocked_by-blocked.result _ fine walked.0 c.blocked_by-blocked.ensures in
     let l = c.list_gates in
     let x = c.extra_of-extra.ensures ∙ ap extra_of c.mode.ensures in
     let barred = listed_filled s (λ (g : ℕ). pick (plan_barred s g) 1 0) _ l.new.barred (barred-given s _ blocked-is) l.ensures.filled in
