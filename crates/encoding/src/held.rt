@@ -49,6 +49,7 @@ fn outline_at(words: &[u64]) -> Option<Outline>
 }
 
 // The outline that words hold as a plan.
+#[tactic(auto, unfolding(crate::specs::Holding::outlined_at))]
 pub fn outlined_at(words: &[u64]) -> Option<Outline>
     ensures { outlined result ≡ outlined_at words.now }
 {
@@ -74,6 +75,7 @@ fn counts_at(words: &[u64]) -> Counts
 }
 
 // What words hold as a state.
+#[tactic(auto, unfolding(crate::specs::Holding::held_at))]
 pub fn held_at(words: &[u64]) -> Held
     ensures { held_with (outlined result.outline) result.counts ≡ held_at words.now }
 {

@@ -15,7 +15,7 @@ returns-then-words-ge-STATE_WORDS c =
     let a = c.args in
     let k = a.counts in
     counts_written k.rows k.s_words k.cells k.tables k.table_rows k.phase (marks_at a.words.now) a.words.now (marks-long) c.if-words-ge-STATE_WORDS.true
-    refl _ c.put_words.ensures
+    refl _ (rw c.count_words-tally.ensures at c.put_words.ensures)
 
 pub returns-else-words-ge-STATE_WORDS : goal.returns-else-words-ge-STATE_WORDS
 returns-else-words-ge-STATE_WORDS c =

@@ -24,5 +24,5 @@ returns c =
     let nodes-long : length c.args.plan.nodes ≡ node_slots = search rules in
     let a = c.args in
     plan-written a.plan a.words.now (gates-long) (nodes-long) c.if-words-lt-PLAN_WORDS.false
-    _ _ _ c.mode.ensures c.lookup_width.ensures (c.flag_of.ensures ∙ ap flag_of c.share_table_id.ensures)
+    _ _ _ c.mode.ensures c.lookup_width.ensures (c.from.ensures ∙ ap flag_of c.share_table_id.ensures)
     _ _ _ _ c.put_words.ensures c.put_words-2.ensures c.put_words-3.ensures c.put_words-4.ensures

@@ -15,7 +15,7 @@ returns-then-words-ge-STATE_WORDS c =
     -- an array by value has its length
     let long : length a.used ≡ most_gates = search rules in
     progress_written k.rows k.s_words k.cells k.tables k.table_rows k.phase a.used a.words.now long c.if-words-ge-STATE_WORDS.true
-    _ _ c.put_words.ensures c.put_words-then-words-ge-STATE_WORDS.ensures
+    _ _ (rw c.count_words.ensures at c.put_words.ensures) c.put_words-then-words-ge-STATE_WORDS.ensures
 
 pub returns-else-words-ge-STATE_WORDS : goal.returns-else-words-ge-STATE_WORDS
 returns-else-words-ge-STATE_WORDS c =

@@ -4,14 +4,14 @@ use Rattle.parameters.specs.declared.parameters.Parameters.{Parameters}
 use Rattle.encoding.specs.Encoding.{lookup_fits, lookup_there}
 use Rattle.encoding.proofs.held.outline_at.Goals as goal
 
-pub returns-then-lookup_fits : goal.returns-then-lookup_fits
-returns-then-lookup_fits c =
+pub returns-then-not-lookup_fits : goal.returns-then-not-lookup_fits
+returns-then-not-lookup_fits c =
     let there : c.lookup_fits.result ≡ lookup_there c.args.words.now = c.lookup_fits.ensures ∙ ap (λ (q : Parameters). lookup_fits q.mode q.width q.share) c.parameters_at-parameters.ensures in
-    let t : lookup_there c.args.words.now ≡ true = sym (there) ∙ c.if-lookup_fits.true in
-    rw (c.lookup-lookup.ensures, c.parameters_at-parameters.ensures, t) refl
+    let t : lookup_there c.args.words.now ≡ false = sym (there) ∙ c.if-not-lookup_fits.true in
+    rw t refl
 
 pub returns : goal.returns
 returns c =
     let there : c.lookup_fits.result ≡ lookup_there c.args.words.now = c.lookup_fits.ensures ∙ ap (λ (q : Parameters). lookup_fits q.mode q.width q.share) c.parameters_at-parameters.ensures in
-    let t : lookup_there c.args.words.now ≡ false = sym (there) ∙ c.if-lookup_fits.false in
-    c.no_plan.ensures ∙ rw t refl
+    let t : lookup_there c.args.words.now ≡ true = sym (there) ∙ c.if-not-lookup_fits.false in
+    rw (c.lookup-lookup.ensures, c.parameters_at-parameters.ensures, t) refl
