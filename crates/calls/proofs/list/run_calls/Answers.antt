@@ -3,37 +3,37 @@
 use Rattle.std.proofs.Common.{◌≡◌, refl, sym, ap, ◌∙◌, ℕ, ◌+◌, ◌-◌, ◌*◌, ◌<◌, arith, length, get_or, take, drop, length-set}
 use Rattle.columns.specs.Given.{marked_of}
 use Rattle.claim.specs.Chain.{Kept, answer, left}
-use Rattle.calls.specs.Encoded.{Ran, call_by}
+use Rattle.std.specs.Prelude.{Some}
+use Rattle.calls.specs.Encoded.{Ran, call_by, count_told}
 use Rattle.calls.specs.EncodedLaws.{Fits, ran_20, ran_10, turn_start, turn_fits, turn_next, turn_end}
 use Rattle.calls.proofs.list.run_calls.Invariants.{within}
 use Rattle.calls.proofs.list.run_calls.Goals as goal
 
-pub returns-then-counted-lt1 : goal.returns-then-counted-lt1
-returns-then-counted-lt1 c =
-    let a = c.args in
-    let start : Kept = within a.outline a.gates.now a.nodes.now a.counts a.used a.constants.now a.copies.now a.scratch.now a.tables.now in
-    let e = ran_20 a.list.now start a.numbers.now c.count_calls-counted.result c.count_calls-counted.ensures c.if-counted-lt1.true in
-    record { value = c.give.ensures ∙ sym (ap (λ (y : Ran). marked_of y.answer) e); tables_after = sym (ap (λ (y : Ran). y.store) e); numbers_after = sym (ap (λ (y : Ran). y.numbers) e) }
+pub returns-in_default : goal.returns-in_default
+returns-in_default c = ?
 
-pub returns-then-numbers-counted : goal.returns-then-numbers-counted
-returns-then-numbers-counted c =
+pub unwrap-kind-requires : goal.unwrap-kind-requires
+unwrap-kind-requires c = ?
+
+pub returns-then-numbers-count : goal.returns-then-numbers-count
+returns-then-numbers-count c =
     let a = c.args in
-    let start : Kept = within a.outline a.gates.now a.nodes.now a.counts a.used a.constants.now a.copies.now a.scratch.now a.tables.now in
-    let e = ran_10 a.list.now start a.numbers.now c.count_calls-counted.result c.count_calls-counted.ensures (omega arith) c.if-numbers-counted.true in
-    record { value = c.give-then-numbers-counted.ensures ∙ sym (ap (λ (y : Ran). marked_of y.answer) e); tables_after = sym (ap (λ (y : Ran). y.store) e); numbers_after = sym (ap (λ (y : Ran). y.numbers) e) }
+    let start : Kept = within a.parts a.counts.now a.used.now a.constants.now a.copies.now a.scratch.now a.tables.now in
+    let e = ran_10 a.list.now start a.numbers.now (count_told (Some c.in-Some.count)) c.in-Some.ensures (omega arith) c.if-numbers-count.true in
+    record { value = sym (ap (λ (y : Ran). marked_of y.answer) e); tables_after = sym (ap (λ (y : Ran). y.store) e); numbers_after = sym (ap (λ (y : Ran). y.numbers) e) }
 
 pub loop-at-init : goal.loop-at-init
 loop-at-init c =
     let a = c.args in
-    let start : Kept = within a.outline a.gates.now a.nodes.now a.counts a.used a.constants.now a.copies.now a.scratch.now a.tables.now in
-    (omega arith, refl, refl, refl, refl, refl, turn_start a.list.now start a.numbers.now c.count_calls-counted.result c.count_calls-counted.ensures (omega arith) (omega arith), omega arith)
+    let start : Kept = within a.parts a.counts.now a.used.now a.constants.now a.copies.now a.scratch.now a.tables.now in
+    (omega arith, refl, refl, refl, refl, refl, turn_start a.list.now start a.numbers.now (count_told (Some c.in-Some.count)) c.in-Some.ensures (omega arith) (omega arith), omega arith)
 
 pub overflow_add-start : goal.overflow_add-start
 overflow_add-start c =
     let a = c.args in
-    let start : Kept = within a.outline a.gates.now a.nodes.now a.counts a.used a.constants.now a.copies.now a.scratch.now a.tables.now in
+    let start : Kept = within a.parts a.counts.now a.used.now a.constants.now a.copies.now a.scratch.now a.tables.now in
     let l = c.loop-at in
-    let kept : Kept = within a.outline a.gates.now a.nodes.now l.held l.marks l.constants l.copies l.scratch l.tables in
+    let kept : Kept = within a.parts l.counts l.used l.constants l.copies l.scratch l.tables in
     -- the call at the place is all there, and there is room for its number
     let there : Fits a.list.now l.at × (l.place < length l.numbers) = turn_fits a.list.now start a.numbers.now l.at l.place kept l.numbers l.invariant.6 (omega arith) in
     omega (arith, there.0.head)
@@ -41,9 +41,9 @@ overflow_add-start c =
 pub overflow_add-end : goal.overflow_add-end
 overflow_add-end c =
     let a = c.args in
-    let start : Kept = within a.outline a.gates.now a.nodes.now a.counts a.used a.constants.now a.copies.now a.scratch.now a.tables.now in
+    let start : Kept = within a.parts a.counts.now a.used.now a.constants.now a.copies.now a.scratch.now a.tables.now in
     let l = c.loop-at in
-    let kept : Kept = within a.outline a.gates.now a.nodes.now l.held l.marks l.constants l.copies l.scratch l.tables in
+    let kept : Kept = within a.parts l.counts l.used l.constants l.copies l.scratch l.tables in
     -- the call at the place is all there, and there is room for its number
     let there : Fits a.list.now l.at × (l.place < length l.numbers) = turn_fits a.list.now start a.numbers.now l.at l.place kept l.numbers l.invariant.6 (omega arith) in
     omega (arith, there.0.head)
@@ -51,9 +51,9 @@ overflow_add-end c =
 pub bounds-list-at-in-loop-at : goal.bounds-list-at-in-loop-at
 bounds-list-at-in-loop-at c =
     let a = c.args in
-    let start : Kept = within a.outline a.gates.now a.nodes.now a.counts a.used a.constants.now a.copies.now a.scratch.now a.tables.now in
+    let start : Kept = within a.parts a.counts.now a.used.now a.constants.now a.copies.now a.scratch.now a.tables.now in
     let l = c.loop-at in
-    let kept : Kept = within a.outline a.gates.now a.nodes.now l.held l.marks l.constants l.copies l.scratch l.tables in
+    let kept : Kept = within a.parts l.counts l.used l.constants l.copies l.scratch l.tables in
     -- the call at the place is all there, and there is room for its number
     let there : Fits a.list.now l.at × (l.place < length l.numbers) = turn_fits a.list.now start a.numbers.now l.at l.place kept l.numbers l.invariant.6 (omega arith) in
     omega (arith, there.0.head)
@@ -61,9 +61,9 @@ bounds-list-at-in-loop-at c =
 pub overflow_add-end-in-loop-at : goal.overflow_add-end-in-loop-at
 overflow_add-end-in-loop-at c =
     let a = c.args in
-    let start : Kept = within a.outline a.gates.now a.nodes.now a.counts a.used a.constants.now a.copies.now a.scratch.now a.tables.now in
+    let start : Kept = within a.parts a.counts.now a.used.now a.constants.now a.copies.now a.scratch.now a.tables.now in
     let l = c.loop-at in
-    let kept : Kept = within a.outline a.gates.now a.nodes.now l.held l.marks l.constants l.copies l.scratch l.tables in
+    let kept : Kept = within a.parts l.counts l.used l.constants l.copies l.scratch l.tables in
     -- the call at the place is all there, and there is room for its number
     let there : Fits a.list.now l.at × (l.place < length l.numbers) = turn_fits a.list.now start a.numbers.now l.at l.place kept l.numbers l.invariant.6 (omega arith) in
     omega (arith, there.0.piece)
@@ -71,9 +71,9 @@ overflow_add-end-in-loop-at c =
 pub slice_bounds-one_call-count : goal.slice_bounds-one_call-count
 slice_bounds-one_call-count c =
     let a = c.args in
-    let start : Kept = within a.outline a.gates.now a.nodes.now a.counts a.used a.constants.now a.copies.now a.scratch.now a.tables.now in
+    let start : Kept = within a.parts a.counts.now a.used.now a.constants.now a.copies.now a.scratch.now a.tables.now in
     let l = c.loop-at in
-    let kept : Kept = within a.outline a.gates.now a.nodes.now l.held l.marks l.constants l.copies l.scratch l.tables in
+    let kept : Kept = within a.parts l.counts l.used l.constants l.copies l.scratch l.tables in
     -- the call at the place is all there, and there is room for its number
     let there : Fits a.list.now l.at × (l.place < length l.numbers) = turn_fits a.list.now start a.numbers.now l.at l.place kept l.numbers l.invariant.6 (omega arith) in
     omega (arith, there.0.piece)
@@ -81,9 +81,9 @@ slice_bounds-one_call-count c =
 pub slice_bounds-one_call-start : goal.slice_bounds-one_call-start
 slice_bounds-one_call-start c =
     let a = c.args in
-    let start : Kept = within a.outline a.gates.now a.nodes.now a.counts a.used a.constants.now a.copies.now a.scratch.now a.tables.now in
+    let start : Kept = within a.parts a.counts.now a.used.now a.constants.now a.copies.now a.scratch.now a.tables.now in
     let l = c.loop-at in
-    let kept : Kept = within a.outline a.gates.now a.nodes.now l.held l.marks l.constants l.copies l.scratch l.tables in
+    let kept : Kept = within a.parts l.counts l.used l.constants l.copies l.scratch l.tables in
     -- the call at the place is all there, and there is room for its number
     let there : Fits a.list.now l.at × (l.place < length l.numbers) = turn_fits a.list.now start a.numbers.now l.at l.place kept l.numbers l.invariant.6 (omega arith) in
     omega (arith, there.0.piece)
@@ -91,9 +91,9 @@ slice_bounds-one_call-start c =
 pub slice_bounds-one_call-end : goal.slice_bounds-one_call-end
 slice_bounds-one_call-end c =
     let a = c.args in
-    let start : Kept = within a.outline a.gates.now a.nodes.now a.counts a.used a.constants.now a.copies.now a.scratch.now a.tables.now in
+    let start : Kept = within a.parts a.counts.now a.used.now a.constants.now a.copies.now a.scratch.now a.tables.now in
     let l = c.loop-at in
-    let kept : Kept = within a.outline a.gates.now a.nodes.now l.held l.marks l.constants l.copies l.scratch l.tables in
+    let kept : Kept = within a.parts l.counts l.used l.constants l.copies l.scratch l.tables in
     -- the call at the place is all there, and there is room for its number
     let there : Fits a.list.now l.at × (l.place < length l.numbers) = turn_fits a.list.now start a.numbers.now l.at l.place kept l.numbers l.invariant.6 (omega arith) in
     omega (arith, there.0.piece)
@@ -106,9 +106,9 @@ offset_bounds-numbers-place c =
 pub bounds-numbers-place : goal.bounds-numbers-place
 bounds-numbers-place c =
     let a = c.args in
-    let start : Kept = within a.outline a.gates.now a.nodes.now a.counts a.used a.constants.now a.copies.now a.scratch.now a.tables.now in
+    let start : Kept = within a.parts a.counts.now a.used.now a.constants.now a.copies.now a.scratch.now a.tables.now in
     let l = c.loop-at in
-    let kept : Kept = within a.outline a.gates.now a.nodes.now l.held l.marks l.constants l.copies l.scratch l.tables in
+    let kept : Kept = within a.parts l.counts l.used l.constants l.copies l.scratch l.tables in
     -- the call at the place is all there, and there is room for its number
     let there : Fits a.list.now l.at × (l.place < length l.numbers) = turn_fits a.list.now start a.numbers.now l.at l.place kept l.numbers l.invariant.6 (omega arith) in
     there.1
@@ -121,9 +121,9 @@ overflow_add-place c =
 pub loop-at-smaller : goal.loop-at-smaller
 loop-at-smaller c =
     let a = c.args in
-    let start : Kept = within a.outline a.gates.now a.nodes.now a.counts a.used a.constants.now a.copies.now a.scratch.now a.tables.now in
+    let start : Kept = within a.parts a.counts.now a.used.now a.constants.now a.copies.now a.scratch.now a.tables.now in
     let l = c.loop-at in
-    let kept : Kept = within a.outline a.gates.now a.nodes.now l.held l.marks l.constants l.copies l.scratch l.tables in
+    let kept : Kept = within a.parts l.counts l.used l.constants l.copies l.scratch l.tables in
     -- the call at the place is all there, and there is room for its number
     let there : Fits a.list.now l.at × (l.place < length l.numbers) = turn_fits a.list.now start a.numbers.now l.at l.place kept l.numbers l.invariant.6 (omega arith) in
     omega (arith, there.0.piece)
@@ -131,16 +131,16 @@ loop-at-smaller c =
 pub loop-at-preserved : goal.loop-at-preserved
 loop-at-preserved c =
     let a = c.args in
-    let start : Kept = within a.outline a.gates.now a.nodes.now a.counts a.used a.constants.now a.copies.now a.scratch.now a.tables.now in
+    let start : Kept = within a.parts a.counts.now a.used.now a.constants.now a.copies.now a.scratch.now a.tables.now in
     let l = c.loop-at in
-    let kept : Kept = within a.outline a.gates.now a.nodes.now l.held l.marks l.constants l.copies l.scratch l.tables in
+    let kept : Kept = within a.parts l.counts l.used l.constants l.copies l.scratch l.tables in
     -- the call at the place is all there, and there is room for its number
     let there : Fits a.list.now l.at × (l.place < length l.numbers) = turn_fits a.list.now start a.numbers.now l.at l.place kept l.numbers l.invariant.6 (omega arith) in
-    let o = c.one_call-told in
+    let o = c.one_call-answer in
     let ws = a.list.now in
     let e : (l.at + 2 + get_or ws (l.at + 1) 0) - (l.at + 2) ≡ get_or ws (l.at + 1) 0 = omega arith in (
       there.0.piece,
-      length-set l.numbers l.place o.result.number ∙ l.invariant.1,
+      length-set l.numbers l.place c.answer_number.result ∙ l.invariant.1,
       o.auto.constants ∙ l.invariant.2,
       o.auto.copies ∙ l.invariant.3,
       o.auto.scratch ∙ l.invariant.4,
@@ -167,8 +167,8 @@ shape_of-tables c = c.loop-at.invariant.5
 pub returns : goal.returns
 returns c =
     let a = c.args in
-    let start : Kept = within a.outline a.gates.now a.nodes.now a.counts a.used a.constants.now a.copies.now a.scratch.now a.tables.now in
+    let start : Kept = within a.parts a.counts.now a.used.now a.constants.now a.copies.now a.scratch.now a.tables.now in
     let l = c.loop-at in
-    let kept : Kept = within a.outline a.gates.now a.nodes.now l.held l.marks l.constants l.copies l.scratch l.tables in
+    let kept : Kept = within a.parts l.counts l.used l.constants l.copies l.scratch l.tables in
     let e = turn_end a.list.now start a.numbers.now l.at l.place kept l.numbers l.invariant.6 (omega arith) in
-    record { value = c.give-2.ensures ∙ sym (ap (λ (y : Ran). marked_of y.answer) e); tables_after = sym (ap (λ (y : Ran). y.store) e); numbers_after = sym (ap (λ (y : Ran). y.numbers) e) }
+    record { value = sym (ap (λ (y : Ran). marked_of y.answer) e); tables_after = sym (ap (λ (y : Ran). y.store) e); numbers_after = sym (ap (λ (y : Ran). y.numbers) e) }
