@@ -35,7 +35,5 @@ fn main(rt: HostRuntime) -> io::Result<()> {
     let records = Replay::new().step().step().step();
     let s = (0..count).fold(records, |s, _| replay_record(bytes, s));
     println!(rt; "records {count}")?;
-    println!(rt; "words {}", s.at)?;
-    println!(rt; "comparisons {}", s.compared)?;
-    println!(rt; "differences {}", s.differences)
+    s.print(&rt)
 }

@@ -61,7 +61,5 @@ fn main(rt: HostRuntime) -> io::Result<()> {
         .note(length / 8 == all.at as usize)
         .note(length % 8 == 0);
     println!(rt; "listings {count}")?;
-    println!(rt; "words {}", s.at)?;
-    println!(rt; "comparisons {}", s.compared)?;
-    println!(rt; "differences {}", s.differences)
+    s.print(&rt)
 }
