@@ -158,7 +158,7 @@ impl<'a> Parts<'a> {
         ensures number { answer_number result ≡ (path_answer (parts_plan self.entry) gate).number }
         ensures selection { selection_told result ≡ (path_answer (parts_plan self.entry) gate).selection }
     {
-        self.fault()?;
+        self.fault()?; // 19 comes first
         if self.outline.gate_count <= gate {
             return Err(Refusal::RowRecord);
         }
