@@ -6,3 +6,4 @@ mod NodesLaws
 mod PathsLaws
 mod RefusalsLaws
 mod PlanCodeLaws
+pub mod RowsLaws

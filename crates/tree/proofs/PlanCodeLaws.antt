@@ -223,3 +223,7 @@ module _ (p : Plan) where
 pub table_made-up : (p : Plan) → plan_fault p ≢ 0 → table_id_answer p ≡ record { number = (path_answer p 0).number; count = 0; index = 0 }
 unfolding path_answer table_id_answer
 table_made-up p n = rw (ne_eqb (plan_fault p) 0 n)
+
+-- the length of the lookup path, where gate 0 was answered for
+pub lookup_index : (p : Plan) → plan_fault p ≡ 0 → selection_length (path_answer p 0).selection ≡ length (plan_path p 0)
+lookup_index p f = (path_fine p f).steps_are

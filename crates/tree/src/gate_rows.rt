@@ -23,6 +23,7 @@ pub struct GateRows {
 }
 
 // Whether no gate of kind 1 has the path of zeros: by the kinds of the gates, and by the bits of their paths.
+#[tactic(auto, using(crate::proofs::RowsLaws::ends_at))]
 pub(crate) fn blocked_by(gates: &[u64], many: usize, bits: &Marks) -> bool
     requires { (many * gate_words ≤ length gates.now) × (many ≤ most_gates) }
     ensures { result ≡ pick (marker_ends (λ (g : ℕ). eqb (get_or bits.now g 0) 0) gates.now many) false true }

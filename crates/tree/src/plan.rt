@@ -1,7 +1,8 @@
 // Plans: the test for a made-up plan, paths, what rows need of the gates, and the table-id index, each of a plan's parts; the same of a plan by value.
-ghost use Rattle.std.specs.Prelude.{◌≡◌, None};
+ghost use Rattle.std.specs.Prelude.{◌≡◌, None, Ok};
 ghost use Rattle.refusal.specs.Refusal.{answer_number, answer_or};
 ghost use Rattle.tree.specs.Answers.{column_count, column_index, rows_told, selection_told};
+ghost use Rattle.tree.specs.Selection.{selection_length};
 ghost use Rattle.tree.specs.Plan.{no_rows, zero_plan, parameters_in, outline_of, parts_plan, plan_fault, path_answer, gate_rows_answer, table_id_answer};
 
 use crate::gate_rows::{GateRows, blocked_by, list_gates};
@@ -78,6 +79,13 @@ impl Outline {
             share: u64::from(lookup.share_table_id()),
         }
     }
+}
+
+// A path's length, 0 where there is no selector.
+fn length_of(path: Option<Path>) -> u64
+    ensures { result ≡ selection_length (selection_told (Ok path)) }
+{
+    path.map_or(0, |path| path.length)
 }
 
 impl<'a> Parts<'a> {
@@ -158,7 +166,7 @@ impl<'a> Parts<'a> {
         ensures number { answer_number result ≡ (path_answer (parts_plan self.entry) gate).number }
         ensures selection { selection_told result ≡ (path_answer (parts_plan self.entry) gate).selection }
     {
-        self.fault()?;
+        self.fault()?; // 19 comes first
         if self.outline.gate_count <= gate {
             return Err(Refusal::RowRecord);
         }
@@ -167,17 +175,18 @@ impl<'a> Parts<'a> {
     }
 
     // The index of the table-id column: in mode 2 the lookup path's length, in mode 4 K, else there is none. 19 first.
-    #[tactic(auto, using(crate::proofs::TestLaws::tests, crate::proofs::PlanCodeLaws::no_fault), unfolding(crate::specs::Plan::table_id_answer))]
+    #[tactic(auto, using(crate::proofs::TestLaws::tests, crate::proofs::PlanCodeLaws::no_fault, crate::proofs::PlanCodeLaws::lookup_index), unfolding(crate::specs::Plan::table_id_answer))]
     pub fn table_id(self) -> Result<Option<u64>, Refusal>
         ensures number { answer_number result ≡ (table_id_answer (parts_plan self.entry)).number }
         ensures count { column_count (answer_or None result) ≡ (table_id_answer (parts_plan self.entry)).count }
         ensures index { column_index (answer_or None result) ≡ (table_id_answer (parts_plan self.entry)).index }
     {
         let path = self.path(0)?;
-        let lookup = self.outline.lookup;
-        Ok(match lookup.mode() {
-            2 => Some(path.map_or(0, |path| path.length)),
-            4 => Some(self.outline.told.constants),
+        Ok(match self.outline.lookup {
+            LookupParameters::TableIdAsConstant { .. } => Some(length_of(path)),
+            LookupParameters::UseSpecializedColumnsWithTableIdAsConstant { .. } => Some(
+                self.outline.told.constants,
+            ),
             _ => None,
         })
     }
