@@ -1,10 +1,10 @@
 -- A kind word is 1 to 5, and its kind has that word.
 --
--- Main statements: `kind_known`, `kind_low`, `kind_high`, `kind_none`.
-use Rattle.std.specs.Prelude.{◌≡◌, refl, ℕ, ◌≤◌, Option, Some, None, eqb}
+-- Main statements: `kind_known`, `kind_low`, `kind_high`, `kind_none`, `kind_there`.
+use Rattle.std.specs.Prelude.{◌≡◌, refl, ℕ, ◌≤◌, Option, Some, None}
+use Rattle.std.specs.Option.{IsSome}
 use Rattle.std.proofs.Common.{sym, ap, ◌∙◌, arith, eq-eqb, ne_eqb}
 use Rattle.std.proofs.Math.Decide.{ℕ_discrete}
-use Rattle.base.specs.Pick.{pick}
 use Rattle.calls.specs.declared.call.Kind.{Kind}
 use Rattle.calls.specs.declared.call.Kind.TheVariants.{Rows, SWords, Cells, Tables, Finishing}
 use Rattle.calls.specs.Kinds.{kind_word, kind_of}
@@ -13,7 +13,6 @@ use Rattle.calls.specs.Kinds.{kind_word, kind_of}
 abbrev word_of : Option Kind → ℕ
 word_of (Some k) = kind_word k
 word_of None = 0
-
 
 pub kind_low : (k : Kind) → 1 ≤ kind_word k
 kind_low Rows = omega arith
@@ -57,3 +56,7 @@ kind_none w e l h = one (ℕ_discrete w 1) (ℕ_discrete w 2) (ℕ_discrete w 3)
     one (no n) (no m) (no q) (yes d) g = none Tables (rw (ne_eqb w 1 n, ne_eqb w 2 m, ne_eqb w 3 q, eq-eqb w 4 d) at e)
     one (no n) (no m) (no q) (no r) (yes d) = none Finishing (rw (ne_eqb w 1 n, ne_eqb w 2 m, ne_eqb w 3 q, ne_eqb w 4 r, eq-eqb w 5 d) at e)
     one (no n) (no m) (no q) (no r) (no s) = omega (arith, l, h, n, m, q, r, s)
+
+pub kind_there : (w : ℕ) (o : Option Kind) → o ≡ kind_of w → 1 ≤ w → w ≤ 5 → IsSome o
+kind_there w (Some k) e l h = refl
+kind_there w None e l h = absurd (kind_none w (sym e) l h)

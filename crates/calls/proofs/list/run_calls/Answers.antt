@@ -1,19 +1,33 @@
 -- `calls::list::run_calls` meets its contract: counted first; then each call of the list is a step of the chain. The loop's invariant: the calls from the place on leave
 -- what the whole list leaves. No call changes the plan. The measure is what is left of the list.
-use Rattle.std.proofs.Common.{◌≡◌, refl, sym, ap, ◌∙◌, ℕ, ◌+◌, ◌-◌, ◌*◌, ◌<◌, arith, length, get_or, take, drop, length-set}
-use Rattle.columns.specs.Given.{marked_of}
+use Rattle.std.proofs.Common.{◌≡◌, refl, sym, ap, ◌∙◌, ℕ, ◌+◌, ◌-◌, ◌*◌, ◌<◌, arith, length, get_or, set, subst, take, drop, length-set}
+use Rattle.refusal.specs.Refusal.{answer_number}
+use Rattle.columns.specs.Given.{marked_of, marked_with}
 use Rattle.claim.specs.Chain.{Kept, answer, left}
-use Rattle.std.specs.Prelude.{Some}
-use Rattle.calls.specs.Encoded.{Ran, call_by, count_told}
-use Rattle.calls.specs.EncodedLaws.{Fits, ran_20, ran_10, turn_start, turn_fits, turn_next, turn_end}
+use Rattle.std.specs.Prelude.{Some, None}
+use Rattle.calls.specs.KindLaws.{kind_known, kind_there}
+use Rattle.calls.specs.Encoded.{Ran, call_by, count_told, end_at}
+use Rattle.calls.specs.Kinds.{kind_word}
+use Rattle.calls.specs.EncodedLaws.{Fits, ran_20, ran_10, Turn, turn_start, turn_fits, turn_next, turn_end}
 use Rattle.calls.proofs.list.run_calls.Invariants.{within}
 use Rattle.calls.proofs.list.run_calls.Goals as goal
 
 pub returns-in_default : goal.returns-in_default
-returns-in_default c = ?
+returns-in_default c =
+    let a = c.args in
+    let start : Kept = within a.parts a.counts.now a.used.now a.constants.now a.copies.now a.scratch.now a.tables.now in
+    let e = ran_20 a.list.now start a.numbers.now (count_told None) c.in_default.ensures (omega arith) in
+    record { value = sym (ap (λ (y : Ran). marked_of y.answer) e); tables_after = sym (ap (λ (y : Ran). y.store) e); numbers_after = sym (ap (λ (y : Ran). y.numbers) e) }
 
 pub unwrap-kind-requires : goal.unwrap-kind-requires
-unwrap-kind-requires c = ?
+unwrap-kind-requires c =
+    let a = c.args in
+    let start : Kept = within a.parts a.counts.now a.used.now a.constants.now a.copies.now a.scratch.now a.tables.now in
+    let l = c.loop-at in
+    let kept : Kept = within a.parts l.counts l.used l.constants l.copies l.scratch l.tables in
+    -- the call at the place is of a known kind
+    let there : Fits a.list.now l.at × (l.place < length l.numbers) = turn_fits a.list.now start a.numbers.now l.at l.place kept l.numbers l.invariant.6 (omega arith) in
+    kind_there (get_or a.list.now l.at 0) c.of.result c.of.ensures there.0.low there.0.high
 
 pub returns-then-numbers-count : goal.returns-then-numbers-count
 returns-then-numbers-count c =
@@ -138,6 +152,9 @@ loop-at-preserved c =
     let there : Fits a.list.now l.at × (l.place < length l.numbers) = turn_fits a.list.now start a.numbers.now l.at l.place kept l.numbers l.invariant.6 (omega arith) in
     let o = c.one_call-answer in
     let ws = a.list.now in
+    let k = c.unwrap-kind.result in
+    let w : kind_word k ≡ get_or ws l.at 0 = kind_known (get_or ws l.at 0) k (sym c.of.ensures ∙ c.unwrap-kind.ensures) in
+    let after : Kept = within a.parts o.new.counts o.new.used o.new.constants o.new.copies o.new.scratch o.new.tables in
     let e : (l.at + 2 + get_or ws (l.at + 1) 0) - (l.at + 2) ≡ get_or ws (l.at + 1) 0 = omega arith in (
       there.0.piece,
       length-set l.numbers l.place c.answer_number.result ∙ l.invariant.1,
@@ -145,7 +162,10 @@ loop-at-preserved c =
       o.auto.copies ∙ l.invariant.3,
       o.auto.scratch ∙ l.invariant.4,
       o.auto.tables ∙ l.invariant.5,
-      turn_next ws start a.numbers.now l.at l.place kept l.numbers l.invariant.6 (omega arith) o.result o.new.constants o.new.copies o.new.scratch o.new.tables (o.ensures.value ∙ ap (λ (n : ℕ). marked_of (answer (call_by (get_or ws l.at 0) (take n (drop (l.at + 2) ws))) kept)) e) (o.ensures.tables_after ∙ ap (λ (n : ℕ). left (call_by (get_or ws l.at 0) (take n (drop (l.at + 2) ws))) kept) e),
+      subst (λ (n : ℕ). Turn ws start a.numbers.now (end_at ws l.at) (l.place + 1) after (set l.numbers l.place n)) (sym c.answer_number.ensures)
+          (turn_next ws start a.numbers.now l.at l.place kept l.numbers l.invariant.6 (omega arith) (marked_with (answer_number o.result) o.new.counts o.new.used) o.new.constants o.new.copies o.new.scratch o.new.tables
+          (o.ensures.value ∙ ap (λ (v : ℕ). marked_of (answer (call_by v (take (l.at + 2 + get_or ws (l.at + 1) 0 - (l.at + 2)) (drop (l.at + 2) ws))) kept)) w ∙ ap (λ (n : ℕ). marked_of (answer (call_by (get_or ws l.at 0) (take n (drop (l.at + 2) ws))) kept)) e)
+          (o.ensures.tables_after ∙ ap (λ (v : ℕ). left (call_by v (take (l.at + 2 + get_or ws (l.at + 1) 0 - (l.at + 2)) (drop (l.at + 2) ws))) kept) w ∙ ap (λ (n : ℕ). left (call_by (get_or ws l.at 0) (take n (drop (l.at + 2) ws))) kept) e)),
       omega arith,
     )
 
