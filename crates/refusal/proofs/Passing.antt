@@ -1,9 +1,9 @@
 -- A refusal that `?` passes up. For the goal at that exit: `passed_up r e c.from_residual.ensures.1`, where e is the refusal that the call gave.
 --
--- Main statements: `passed_up`, `nothing_answered`, `refusal_positive` (no refusal has the number 0), `refusal_nonzero`.
-use Rattle.std.proofs.Common.{◌≡◌, ◌≢◌, ◌<◌, refl, arith}
-use Rattle.std.specs.Prelude.{Result}
-use Rattle.std.specs.Result.{IsErrAnd}
+-- Main statements: `passed_up`, `nothing_answered`, `refusal_positive` (no refusal has the number 0), `refusal_nonzero`, `accepted_zero`, `refused_nonzero`.
+use Rattle.std.proofs.Common.{◌≡◌, ◌≢◌, ◌<◌, refl, sym, true≢false, arith}
+use Rattle.std.specs.Prelude.{Result, Ok, Err, true, false}
+use Rattle.std.specs.Result.{IsErrAnd, is_ok}
 use Rattle.std.proofs.lemmas.Result.{err_from_is_err_and}
 use Rattle.refusal.specs.declared.Refusal.{Refusal}
 use Rattle.refusal.specs.declared.Refusal.TheVariants.{Parameter, ShareFlag, GateCount, GateRecord, LookupGate, NothingEvaluated, Constants, NoPlace, NoLabels, ShortBuffer, NotAnElement, RowRecord, TooMany, Variable, Table, Incomplete, UnusedGate, Scratch, MadeUp, Listing, NoMarker, TooLong, MarkerRow}
@@ -44,3 +44,12 @@ refusal_positive MarkerRow = omega arith
 
 pub refusal_nonzero : (r : Refusal) → refusal_number r ≢ 0
 refusal_nonzero r e = let h = refusal_positive r in omega (arith, e, h)
+
+-- what was accepted has the number 0, what was refused has another
+pub accepted_zero : {A : Type 0} (r : Result A Refusal) → is_ok r ≡ true → answer_number r ≡ 0
+accepted_zero (Ok x) h = refl
+accepted_zero (Err e) h = absurd (true≢false (sym h))
+
+pub refused_nonzero : {A : Type 0} (r : Result A Refusal) → is_ok r ≡ false → answer_number r ≢ 0
+refused_nonzero (Ok x) h = absurd (true≢false h)
+refused_nonzero (Err e) h = refusal_nonzero e
