@@ -1,9 +1,9 @@
 -- A refusal that `?` passes up. For the goal at that exit: `passed_up r e c.from_residual.ensures.1`, where e is the refusal that the call gave.
 --
--- Main statements: `passed_up`, `nothing_answered`, `refusal_positive` (no refusal has the number 0), `refusal_nonzero`, `accepted_zero`, `refused_nonzero`.
+-- Main statements: `passed_up`, `nothing_answered`, `refusal_positive` (no refusal has the number 0), `refusal_nonzero`, `accepted_zero`, `refused_nonzero`, `no_err_zero`, `err_nonzero`, `unwrap-answer`.
 use Rattle.std.proofs.Common.{◌≡◌, ◌≢◌, ◌<◌, refl, sym, true≢false, arith}
 use Rattle.std.specs.Prelude.{Result, Ok, Err, true, false}
-use Rattle.std.specs.Result.{IsErrAnd, is_ok}
+use Rattle.std.specs.Result.{IsErrAnd, is_err, is_ok, result_unwrap_or}
 use Rattle.std.proofs.lemmas.Result.{err_from_is_err_and}
 use Rattle.refusal.specs.declared.Refusal.{Refusal}
 use Rattle.refusal.specs.declared.Refusal.TheVariants.{Parameter, ShareFlag, GateCount, GateRecord, LookupGate, NothingEvaluated, Constants, NoPlace, NoLabels, ShortBuffer, NotAnElement, RowRecord, TooMany, Variable, Table, Incomplete, UnusedGate, Scratch, MadeUp, Listing, NoMarker, TooLong, MarkerRow}
@@ -53,3 +53,16 @@ accepted_zero (Err e) h = absurd (true≢false (sym h))
 pub refused_nonzero : {A : Type 0} (r : Result A Refusal) → is_ok r ≡ false → answer_number r ≢ 0
 refused_nonzero (Ok x) h = absurd (true≢false h)
 refused_nonzero (Err e) h = refusal_nonzero e
+
+pub no_err_zero : {A : Type 0} (r : Result A Refusal) → is_err r ≡ false → answer_number r ≡ 0
+no_err_zero (Ok x) h = refl
+no_err_zero (Err e) h = absurd (true≢false h)
+
+pub err_nonzero : {A : Type 0} (r : Result A Refusal) → is_err r ≡ true → answer_number r ≢ 0
+err_nonzero (Ok x) h = absurd (true≢false (sym h))
+err_nonzero (Err e) h = refusal_nonzero e
+
+-- what std hands out in place of a refusal
+pub unwrap-answer : {A : Type 0} (none : A) (r : Result A Refusal) → result_unwrap_or r none ≡ answer_or none r
+unwrap-answer none (Ok x) = refl
+unwrap-answer none (Err e) = refl

@@ -97,3 +97,13 @@ pub fn answer_number<T>(answer: &Result<T, Refusal>) -> u64
         Err(refusal) => refusal.number(),
     }
 }
+
+// Whether a call was accepted, without what it answers.
+pub fn outcome<T>(answer: &Result<T, Refusal>) -> Result<(), Refusal>
+    ensures { answer_number result ≡ answer_number answer.now }
+{
+    match answer {
+        Ok(_) => Ok(()),
+        Err(refusal) => Err(*refusal),
+    }
+}
