@@ -4,9 +4,9 @@ ghost use Rattle.refusal.specs.Refusal.{answer_number};
 ghost use Rattle.columns.specs.Intake.{store_of};
 ghost use Rattle.capi.specs.Calls.{list_after, ran_over};
 
-use crate::intake::parts_in;
+use crate::intake::{give_marked_back, parts_in};
 use calls::list::run_calls;
-use encoding::encoding::{STATE_WORDS, encode_progress};
+use encoding::encoding::STATE_WORDS;
 use encoding::held::{held_at, marks_of};
 use refusal::Refusal;
 use tree::plan::Plan;
@@ -37,7 +37,7 @@ pub fn kinchoyu_calls(
         Some(outline) => parts_in(outline, state),
         None => zero.parts(),
     };
-    run_calls(
+    let answer = run_calls(
         parts,
         &mut counts,
         &mut used,
@@ -47,9 +47,9 @@ pub fn kinchoyu_calls(
         copies,
         scratch,
         tables,
-    )?;
-    if state.len() == STATE_WORDS {
-        encode_progress(counts, used, state);
+    );
+    if state.len() != STATE_WORDS {
+        return answer;
     }
-    Ok(())
+    give_marked_back(answer, counts, used, state)
 }

@@ -1,12 +1,19 @@
--- `intake::give_marked_back` meets its contract: counts, marks and phase are written where the number is 0.
-use Rattle.std.proofs.Common.{◌∙◌, refl}
+-- `intake::give_marked_back` meets its contract: counts, marks and phase are written where the call was accepted.
+use Rattle.std.proofs.Common.{◌∙◌, refl, sym}
+use Rattle.refusal.specs.Refusal.{answer_number}
+use Rattle.refusal.proofs.Passing.{accepted_zero, refused_nonzero}
+use Rattle.columns.specs.Given.{marked_with}
 use Rattle.capi.proofs.IntakeLaws.{marked-given, marked-kept}
 use Rattle.capi.proofs.intake.give_marked_back.Goals as goal
 
-pub returns-then-marked-eq0 : goal.returns-then-marked-eq0
-returns-then-marked-eq0 c =
+pub returns-then-is_ok : goal.returns-then-is_ok
+returns-then-is_ok c =
     let a = c.args in
-    record { value = refl; state_after = c.encode_progress.ensures ∙ marked-given a.marked a.state.now c.if-marked-eq0.true }
+    let z = accepted_zero a.answer (sym c.is_ok.ensures.value ∙ c.if-is_ok.true) in
+    record { value = refl; state_after = c.encode_progress.ensures ∙ marked-given (marked_with (answer_number a.answer) a.counts a.used) a.state.now z }
 
-pub returns-else-marked-eq0 : goal.returns-else-marked-eq0
-returns-else-marked-eq0 c = let a = c.args in record { value = refl; state_after = marked-kept a.marked a.state.now c.if-marked-eq0.false }
+pub returns-else-is_ok : goal.returns-else-is_ok
+returns-else-is_ok c =
+    let a = c.args in
+    let z = refused_nonzero a.answer (sym c.is_ok.ensures.value ∙ c.if-is_ok.false) in
+    record { value = refl; state_after = marked-kept (marked_with (answer_number a.answer) a.counts a.used) a.state.now z }

@@ -1,27 +1,47 @@
 -- `intake::kinchoyu_s_words` meets its contract: the call on the parts that stand in the words is the call of the state that they encode.
-use Rattle.std.proofs.Common.{length, ◌≡◌, arith}
-use Rattle.encoding.specs.Encoding.{state_length}
+use Rattle.std.proofs.Common.{◌≡◌, [], ap, sym, refl, ◌∙◌, arith}
+use Rattle.std.specs.Prelude.{Option, Some, None}
+use Rattle.refusal.specs.Refusal.{answer_number}
+use Rattle.tree.specs.declared.plan.Outline.{Outline}
+use Rattle.tree.specs.declared.plan.Plan.{Plan}
+use Rattle.columns.specs.Intake.{state_in, with_state, s_words_answer, s_words_left}
+use Rattle.columns.specs.Given.{given_of, given_with}
+use Rattle.encoding.specs.Holding.{Held, held_at, held_with, outlined}
 use Rattle.encoding.proofs.HeldLaws.{holds}
 use Rattle.capi.proofs.IntakeLaws.{words_back, words-none}
 use Rattle.capi.proofs.intake.kinchoyu_s_words.Goals as goal
 
-pub slice_bounds-gates-end : goal.slice_bounds-gates-end
-slice_bounds-gates-end c =
-    let long : length c.args.state.now ≡ state_length = (holds c.args.state.now c.held_at-held.result c.held_at-held.ensures c.if-held.true).long in
-    omega (arith, long)
-
-pub slice_bounds-nodes-end : goal.slice_bounds-nodes-end
-slice_bounds-nodes-end c =
-    let long : length c.args.state.now ≡ state_length = (holds c.args.state.now c.held_at-held.result c.held_at-held.ensures c.if-held.true).long in
-    omega (arith, long)
-
-pub returns-then-held : goal.returns-then-held
-returns-then-held c =
-    let a = c.args in
-    let b = a.constants.now in
-    let both = words_back a.state.now c.held_at-held.result c.held_at-held.ensures c.if-held.true a.piece.now b c.take_s_words-given.result _ _ _ c.take_s_words-given.ensures.value c.take_s_words-given.ensures.constants_after c.give_back.ensures.value c.give_back.ensures.state_after in record { value = both.0; state_after = both.1.0; constants_after = both.1.1 }
+pub parts_in-parts-requires : goal.parts_in-parts-requires
+parts_in-parts-requires c =
+    let ws = c.args.state.now in
+    let k = c.held_at-held.result.counts in
+    let h : Held = held_with (outlined (Some c.in-Some.outline)) k in
+    let e : h ≡ held_at ws = ap (λ (x : Option Outline). held_with (outlined x) k) (sym c.in-Some.is) ∙ c.held_at-held.ensures in
+    omega (arith, (holds ws h e refl).long)
 
 pub returns : goal.returns
 returns c =
     let a = c.args in
-    let both = words-none a.state.now c.held_at-held.result c.held_at-held.ensures c.if-held.false a.piece.now a.constants.now in record { value = both.0; state_after = both.1.0; constants_after = both.1.1 }
+    let ws = a.state.now in
+    let b = a.constants.now in
+    let k = c.held_at-held.result.counts in
+    let h : Held = held_with (outlined (Some c.in-Some.outline)) k in
+    let e : h ≡ held_at ws = ap (λ (x : Option Outline). held_with (outlined x) k) (sym c.in-Some.is) ∙ c.held_at-held.ensures in
+    let p = c.parts_in-parts.ensures in
+    let t = c.take_s_words-answer in
+    let g = c.give_back in
+    let all = words_back ws h e refl a.piece.now b (given_with (answer_number t.result) t.new.counts) (answer_number g.result) g.new.state t.new.constants
+    (t.ensures.value ∙ ap (λ (q : Plan). given_of (s_words_answer (with_state q (state_in k [])) a.piece.now b)) p)
+    (t.ensures.constants_after ∙ ap (λ (q : Plan). s_words_left (with_state q (state_in k [])) a.piece.now b) p)
+    (ap answer_number g.ensures.value) g.ensures.state_after in
+    record { value = all.0; state_after = all.1.0; constants_after = all.1.1 }
+
+pub returns-in_default : goal.returns-in_default
+returns-in_default c =
+    let a = c.args in
+    let ws = a.state.now in
+    let k = c.held_at-held.result.counts in
+    let h : Held = held_with (outlined None) k in
+    let e : h ≡ held_at ws = ap (λ (x : Option Outline). held_with (outlined x) k) (sym c.in_default.is) ∙ c.held_at-held.ensures in
+    let all = words-none ws h e refl a.piece.now a.constants.now in
+    record { value = all.0; state_after = all.1.0; constants_after = all.1.1 }
