@@ -41,30 +41,22 @@ pub struct Counts {
 }
 
 // Whether no count is past its section.
+#[tactic(auto, using(tree::proofs::TestLaws::tests), unfolding(pieces::specs::Setting::counts_fit))]
 fn counts_fit(outline: Outline, counts: Counts) -> bool
     requires { Small outline }
     ensures { (gs ns us : List ℕ) → result ≡ counts_fit (setting_of (plan_in outline gs ns)) (state_in counts us) }
 {
-    if outline.trace < counts.rows {
-        return false;
-    }
-    if outline.specialised * outline.trace < counts.s_words {
-        return false;
-    }
-    if outline.copy * outline.trace < counts.cells {
-        return false;
-    }
     let lookup = outline.lookup;
-    if 0 < lookup.mode() {
-        if MOST_TABLES < counts.tables {
-            return false;
-        }
-        return counts.table_rows <= outline.trace;
-    }
-    if 0 < counts.tables {
-        return false;
-    }
-    counts.table_rows <= 0
+    let (most_tables, most_rows) = if 0 < lookup.mode() {
+        (MOST_TABLES, outline.trace)
+    } else {
+        (0, 0)
+    };
+    counts.rows <= outline.trace
+        && counts.s_words <= outline.specialised * outline.trace
+        && counts.cells <= outline.copy * outline.trace
+        && counts.tables <= most_tables
+        && counts.table_rows <= most_rows
 }
 
 // Refuses a made-up state: a sound plan, open, and no count past its section.
@@ -72,10 +64,7 @@ fn stands<'a>(parts: Parts<'a>, counts: Counts) -> Result<(), Refusal>
     ensures { (us : List ℕ) → answer_number result ≡ pick (stands (setting_of (parts_plan parts.entry)) (state_in counts us)) 0 19 }
 {
     parts.fault()?;
-    if counts.phase != OPEN {
-        return Err(Refusal::MadeUp);
-    }
-    if !counts_fit(parts.outline, counts) {
+    if counts.phase != OPEN || !counts_fit(parts.outline, counts) {
         return Err(Refusal::MadeUp);
     }
     Ok(())
@@ -95,10 +84,7 @@ pub fn take_rows<'a>(
     // this is the plan's test too, which is not made a second time
     let gates = parts.rows()?;
     let outline = parts.outline;
-    if counts.phase != OPEN {
-        return Err(Refusal::MadeUp);
-    }
-    if !counts_fit(outline, *counts) {
+    if counts.phase != OPEN || !counts_fit(outline, *counts) {
         return Err(Refusal::MadeUp);
     }
     if constants.len() < rooms_of(outline).constants {
@@ -165,10 +151,7 @@ pub fn take_cells<'a>(
     stands(parts, *counts)?;
     let outline = parts.outline;
     let rooms = rooms_of(outline);
-    if copies.len() < rooms.copies {
-        return Err(Refusal::ShortBuffer);
-    }
-    if scratch.len() < rooms.scratch {
+    if copies.len() < rooms.copies || scratch.len() < rooms.scratch {
         return Err(Refusal::ShortBuffer);
     }
     let total = outline.copy * outline.trace;
@@ -221,17 +204,14 @@ pub fn take_tables<'a>(
 }
 
 // Whether rows, S words and cells are all there.
+#[tactic(auto, using(tree::proofs::TestLaws::tests), unfolding(pieces::specs::Finishing::complete))]
 pub(crate) fn complete(outline: Outline, counts: Counts) -> bool
     requires { Small outline }
     ensures { (gs ns us : List ℕ) → result ≡ complete (setting_of (plan_in outline gs ns)) (state_in counts us) }
 {
-    if counts.rows != outline.trace {
-        return false;
-    }
-    if counts.s_words != outline.specialised * outline.trace {
-        return false;
-    }
-    counts.cells == outline.copy * outline.trace
+    counts.rows == outline.trace
+        && counts.s_words == outline.specialised * outline.trace
+        && counts.cells == outline.copy * outline.trace
 }
 
 // Finishing: each seen variable's value goes to its first cell, by rising index. Nothing is
@@ -249,10 +229,7 @@ pub fn take_finish<'a>(
     stands(parts, *counts)?;
     let outline = parts.outline;
     let rooms = rooms_of(outline);
-    if copies.len() < rooms.copies {
-        return Err(Refusal::ShortBuffer);
-    }
-    if scratch.len() < rooms.scratch {
+    if copies.len() < rooms.copies || scratch.len() < rooms.scratch {
         return Err(Refusal::ShortBuffer);
     }
     if !complete(outline, *counts) {

@@ -33,9 +33,6 @@ good_table lookup width trace t h i ws none =
 pub loop-i-init : goal.loop-i-init
 loop-i-init c = let a = c.args in (c.requires.1, c.requires.2, looking_begin table_size (table_fault a.lookup a.width a.trace) stack_next a.piece.now (stack a.count a.high))
 
-pub table_fault-requires : goal.table_fault-requires
-table_fault-requires c = (c.requires.0, c.loop-i.invariant.1, c.requires.3)
-
 pub returns-in_err-table_fault : goal.returns-in_err-table_fault
 unfolding tables_of
 returns-in_err-table_fault c =
@@ -46,25 +43,10 @@ returns-in_err-table_fault c =
     let some = refusal_nonzero c.in_err-table_fault.field-0.0 in
     up ∙ (e ∙ sym (looking-found table_size (table_fault a.lookup a.width a.trace) stack_next a.piece.now (stack a.count a.high) (stack l.t l.h) l.i l.invariant.2 (omega arith) (λ z. some (e ∙ z))))
 
-pub overflow_add-n : goal.overflow_add-n
-overflow_add-n c =
-    let good = good_table c.args.lookup c.args.width c.args.trace c.loop-i.t c.loop-i.h c.loop-i.i c.args.piece.now c.in_ok-table_fault.ensures in
-    omega (arith, good.whole-record.two)
-
-pub offset_bounds-piece-i-in-loop-i : goal.offset_bounds-piece-i-in-loop-i
-offset_bounds-piece-i-in-loop-i c =
-    let good = good_table c.args.lookup c.args.width c.args.trace c.loop-i.t c.loop-i.h c.loop-i.i c.args.piece.now c.in_ok-table_fault.ensures in
-    omega (arith, good.whole-record.two)
-
 pub bounds-piece-i : goal.bounds-piece-i
 bounds-piece-i c =
     let good = good_table c.args.lookup c.args.width c.args.trace c.loop-i.t c.loop-i.h c.loop-i.i c.args.piece.now c.in_ok-table_fault.ensures in
     omega (arith, good.whole-record.two)
-
-pub overflow_add-t : goal.overflow_add-t
-overflow_add-t c =
-    let good = good_table c.args.lookup c.args.width c.args.trace c.loop-i.t c.loop-i.h c.loop-i.i c.args.piece.now c.in_ok-table_fault.ensures in
-    omega (arith, good.few)
 
 pub overflow_add-h : goal.overflow_add-h
 overflow_add-h c =
@@ -83,11 +65,6 @@ overflow_mul-i c =
 
 pub overflow_add-i-in-loop-i : goal.overflow_add-i-in-loop-i
 overflow_add-i-in-loop-i c =
-    let good = good_table c.args.lookup c.args.width c.args.trace c.loop-i.t c.loop-i.h c.loop-i.i c.args.piece.now c.in_ok-table_fault.ensures in
-    omega (arith, good.end)
-
-pub loop-i-smaller : goal.loop-i-smaller
-loop-i-smaller c =
     let good = good_table c.args.lookup c.args.width c.args.trace c.loop-i.t c.loop-i.h c.loop-i.i c.args.piece.now c.in_ok-table_fault.ensures in
     omega (arith, good.end)
 
