@@ -49,9 +49,6 @@ returns-in_err-given c =
       rows_value = IfOk-from_err f.result _ f.ensures.0;
     }
 
-pub later_fault-requires : goal.later_fault-requires
-later_fault-requires c = (c.requires.0, c.requires.2)
-
 pub returns-in_err-later_fault : goal.returns-in_err-later_fault
 returns-in_err-later_fault c =
     let a = c.args in

@@ -1,5 +1,5 @@
 -- `columns::tables::table_fault` meets its contract: one equation of the number for each way out. The product of width and rows is taken only when both are small.
-use Rattle.std.proofs.Common.{◌≡◌, sym, ap, ◌∙◌, arith, ℕ, ◌+◌, ◌-◌, ◌*◌, ◌<◌, ◌≤◌, length, get_or, take, drop, mul-le-mul}
+use Rattle.std.proofs.Common.{◌≡◌, sym, ap, ◌∙◌, arith, ℕ, ◌+◌, ◌-◌, ◌*◌, ◌<◌, length, get_or, take, drop}
 use Rattle.field.specs.Field.{p}
 use Rattle.pieces.specs.Records.{whole, table_size, all_below}
 use Rattle.pieces.specs.Front.{front}
@@ -28,12 +28,6 @@ pub returns-then-trace-high : goal.returns-then-trace-high
 returns-then-trace-high c =
     let a = c.args in
     sym (table-front a.lookup a.width a.trace (stack a.count a.high) a.words.now c.if-words-lt2.false (λ cs. table_past a.lookup a.width a.trace (stack a.count a.high) (get_or a.words.now 0 0) (get_or a.words.now 1 0) cs c.if-not-lookup.false c.if-words-width.false c.if-count-ge-MOST_TABLES.false (omega (arith, c.if-trace-high.true, c.requires.1))))
-
-pub overflow_mul-size : goal.overflow_mul-size
-overflow_mul-size c =
-    let few_words : c.args.width * get_or c.args.words.now 1 0 ≤ 16 * 65536 = let n : get_or c.args.words.now 1 0 ≤ 65536 = omega (arith, c.if-trace-high.false, c.requires.2) in
-    mul-le-mul c.requires.0 n in
-    omega (arith, few_words)
 
 pub returns-then-words-size : goal.returns-then-words-size
 returns-then-words-size c =
