@@ -60,7 +60,7 @@ fn counts_fit(outline: Outline, counts: Counts) -> bool
 }
 
 // Refuses a made-up state: a sound plan, open, and no count past its section.
-fn stands<'a>(parts: Parts<'a>, counts: Counts) -> Result<(), Refusal>
+fn stands(parts: Parts<'_>, counts: Counts) -> Result<(), Refusal>
     ensures { (us : List ℕ) → answer_number result ≡ pick (stands (setting_of (parts_plan parts.entry)) (state_in counts us)) 0 19 }
 {
     parts.fault()?;
@@ -71,11 +71,11 @@ fn stands<'a>(parts: Parts<'a>, counts: Counts) -> Result<(), Refusal>
 }
 
 // Row records: gate, number of constants, constants.
-pub fn take_rows<'a>(
-    parts: Parts<'a>,
+pub fn take_rows(
+    parts: Parts<'_>,
     counts: &mut Counts,
     used: &mut Marks,
-    piece: &'a [u64],
+    piece: &[u64],
     constants: &mut [u64],
 ) -> Result<(), Refusal>
     ensures value { marked_with (answer_number result) counts.new used.new ≡ marked_of (rows_answer (with_state (parts_plan parts.entry) (state_in counts.old used.old)) piece.now constants.old) }
@@ -115,10 +115,10 @@ pub fn take_rows<'a>(
 }
 
 // Words of the specialised constant columns, column by column.
-pub fn take_s_words<'a>(
-    parts: Parts<'a>,
+pub fn take_s_words(
+    parts: Parts<'_>,
     counts: &mut Counts,
-    piece: &'a [u64],
+    piece: &[u64],
     constants: &mut [u64],
 ) -> Result<(), Refusal>
     ensures value { given_with (answer_number result) counts.new ≡ given_of (s_words_answer (with_state (parts_plan parts.entry) (state_in counts.old [])) piece.now constants.old) }
@@ -138,10 +138,10 @@ pub fn take_s_words<'a>(
 }
 
 // Cell words of the copy columns, column by column.
-pub fn take_cells<'a>(
-    parts: Parts<'a>,
+pub fn take_cells(
+    parts: Parts<'_>,
     counts: &mut Counts,
-    piece: &'a [u64],
+    piece: &[u64],
     copies: &mut [u64],
     scratch: &mut [u64],
 ) -> Result<(), Refusal>
@@ -162,10 +162,10 @@ pub fn take_cells<'a>(
 }
 
 // Table records: width, rows, contents row by row.
-pub fn take_tables<'a>(
-    parts: Parts<'a>,
+pub fn take_tables(
+    parts: Parts<'_>,
     counts: &mut Counts,
-    piece: &'a [u64],
+    piece: &[u64],
     tables: &mut [u64],
 ) -> Result<(), Refusal>
     ensures value { given_with (answer_number result) counts.new ≡ given_of (tables_answer (with_state (parts_plan parts.entry) (state_in counts.old [])) piece.now tables.old) }
@@ -216,12 +216,12 @@ pub(crate) fn complete(outline: Outline, counts: Counts) -> bool
 
 // Finishing: each seen variable's value goes to its first cell, by rising index. Nothing is
 // written unless everything is complete, every gate is in a row and all of scratch is fine.
-pub fn take_finish<'a>(
-    parts: Parts<'a>,
+pub fn take_finish(
+    parts: Parts<'_>,
     counts: &mut Counts,
     used: &Marks,
     copies: &mut [u64],
-    scratch: &'a [u64],
+    scratch: &[u64],
 ) -> Result<(), Refusal>
     ensures value { given_with (answer_number result) counts.new ≡ given_of (finish_answer (with_state (parts_plan parts.entry) (state_in counts.old used.now)) (cols copies.old scratch.now)) }
     ensures copies_after { copies.new ≡ finish_left (with_state (parts_plan parts.entry) (state_in counts.old used.now)) (cols copies.old scratch.now) }
