@@ -19,7 +19,7 @@ use crate::finishing::all_used;
 use crate::rooms::room_number;
 use crate::row_tests::test_rows;
 use crate::s_words::s_words_fault;
-use crate::tables::tables_fault;
+use crate::tables::{TableStack, tables_fault};
 use crate::take::{Counts, OPEN, complete};
 use labels::LONGEST_TRACE;
 use refusal::Refusal;
@@ -46,7 +46,8 @@ fn later_fault(plan: Plan, height: u64, sections: Sections<'_>) -> Result<(), Re
     cells_fault(plan.copy * height, plan.variables, 0, sections.cells)?;
     let lookup = plan.lookup;
     let width = lookup.lookup_width();
-    tables_fault(0 < lookup.mode(), width, plan.trace, 0, 0, sections.tables)
+    let none = TableStack { count: 0, high: 0 };
+    tables_fault(0 < lookup.mode(), width, plan.trace, none, sections.tables)
 }
 
 // 9, then the first fault of the four sections, for a sound plan and what it answers for its gates.

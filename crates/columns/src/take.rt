@@ -17,7 +17,7 @@ use crate::rooms::rooms_of;
 use crate::row_tests::test_rows;
 use crate::rows::write_rows;
 use crate::s_words::s_words_fault;
-use crate::tables::{MOST_TABLES, tables_fault, write_tables};
+use crate::tables::{MOST_TABLES, TableStack, tables_fault, write_tables};
 use refusal::Refusal;
 use selector::Marks;
 use tree::plan::{Outline, Parts};
@@ -179,24 +179,14 @@ pub fn take_tables(
     let lookup = outline.lookup;
     let width = lookup.lookup_width();
     let looked = 0 < lookup.mode();
-    tables_fault(
-        looked,
-        width,
-        outline.trace,
-        counts.tables,
-        counts.table_rows,
-        piece,
-    )?;
+    let below = TableStack {
+        count: counts.tables,
+        high: counts.table_rows,
+    };
+    tables_fault(looked, width, outline.trace, below, piece)?;
     // without a lookup mode no record comes so far
     if looked {
-        let stack = write_tables(
-            width,
-            outline.trace,
-            counts.tables,
-            counts.table_rows,
-            piece,
-            tables,
-        );
+        let stack = write_tables(width, outline.trace, below, piece, tables);
         counts.tables = stack.count;
         counts.table_rows = stack.high;
     }
