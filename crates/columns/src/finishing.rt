@@ -15,6 +15,7 @@ pub(crate) fn all_used(many: u64, used: &Marks) -> bool
 }
 
 // Whether a variable's value is below p and, where it is seen, its first cell one of `cells`.
+#[tactic(auto, using(tree::proofs::TestLaws::tests), unfolding(pieces::specs::Finishing::variable_fine))]
 fn variable_fine(cells: u64, v: u64, scratch: &[u64]) -> bool
     requires { (v < 4294967296) × (2 * v + 1 < length scratch.now) }
     ensures { result ≡ variable_fine cells scratch.now v }
@@ -36,6 +37,7 @@ pub(crate) fn scratch_fine(variables: u64, cells: u64, scratch: &[u64]) -> bool
 }
 
 // A seen variable's value goes to its first cell.
+#[tactic(auto, using(tree::proofs::TestLaws::tests), unfolding(pieces::specs::Finishing::variable_fine, pieces::specs::Finishing::write_back))]
 fn write_back(cells: u64, v: u64, scratch: &[u64], copies: &mut [u64])
     requires v_bound { (v < 4294967296) × (2 * v + 1 < length scratch.now) × (cells ≤ length copies.old) }
     requires v_value { variable_fine cells scratch.now v ≡ true }

@@ -19,8 +19,8 @@ fn clear(many: usize, buffer: &mut [u64])
 }
 
 // Opens the columns of a plan in parts, whose words are lent. A refusal writes nothing.
-pub fn open_parts<'a>(
-    parts: Parts<'a>,
+pub fn open_parts(
+    parts: Parts<'_>,
     constants: &mut [u64],
     copies: &mut [u64],
     scratch: &mut [u64],

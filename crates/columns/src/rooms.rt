@@ -49,16 +49,11 @@ pub(crate) fn room_number(
     ensures { (gs ns : List ℕ) → answer_number result ≡ pick (room_to_open (setting_of (plan_in outline gs ns)) (store_of constants.now copies.now scratch.now tables.now)) 0 10 }
 {
     let rooms = rooms_of(outline);
-    if constants.len() < rooms.constants {
-        return Err(Refusal::ShortBuffer);
-    }
-    if copies.len() < rooms.copies {
-        return Err(Refusal::ShortBuffer);
-    }
-    if scratch.len() < rooms.scratch {
-        return Err(Refusal::ShortBuffer);
-    }
-    if tables.len() < rooms.tables {
+    if constants.len() < rooms.constants
+        || copies.len() < rooms.copies
+        || scratch.len() < rooms.scratch
+        || tables.len() < rooms.tables
+    {
         return Err(Refusal::ShortBuffer);
     }
     Ok(())

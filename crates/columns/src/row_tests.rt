@@ -33,10 +33,7 @@ fn row_fault(
     }
     let g = gate as usize;
     let n = words[1];
-    if own[g] < n {
-        return Err(Refusal::RowRecord);
-    }
-    if words.len() - 2 < n as usize {
+    if own[g] < n || words.len() - 2 < n as usize {
         return Err(Refusal::RowRecord);
     }
     if barred[g] == 1 {

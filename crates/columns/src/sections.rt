@@ -19,7 +19,7 @@ use crate::finishing::all_used;
 use crate::rooms::room_number;
 use crate::row_tests::test_rows;
 use crate::s_words::s_words_fault;
-use crate::tables::tables_fault;
+use crate::tables::{TableStack, tables_fault};
 use crate::take::{Counts, OPEN, complete};
 use labels::LONGEST_TRACE;
 use refusal::Refusal;
@@ -27,23 +27,27 @@ use selector::{MOST_GATES, Marks};
 use tree::gate_rows::GateRows;
 use tree::plan::{Outline, Plan};
 
+// The sections of a circuit, each as one piece.
+#[derive(Clone, Copy)]
+pub struct Sections<'a> {
+    pub rows: &'a [u64],
+    pub s_words: &'a [u64],
+    pub cells: &'a [u64],
+    pub tables: &'a [u64],
+}
+
 // The first fault of S words, cells and tables, each section from its start on. S words and cells are
 // counted against columns of `height` words.
-fn later_fault(
-    plan: Plan,
-    height: u64,
-    s_words: &[u64],
-    cells: &[u64],
-    tables: &[u64],
-) -> Result<(), Refusal>
+fn later_fault(plan: Plan, height: u64, sections: Sections<'_>) -> Result<(), Refusal>
     requires { (plan_fault plan ≡ 0) × (height ≤ longest_trace) }
-    ensures { answer_number result ≡ later_under (setting_of plan) height s_words.now cells.now tables.now }
+    ensures { answer_number result ≡ later_under (setting_of plan) height sections.entry.s_words.now sections.entry.cells.now sections.entry.tables.now }
 {
-    s_words_fault(plan.specialised * height, 0, s_words)?;
-    cells_fault(plan.copy * height, plan.variables, 0, cells)?;
+    s_words_fault(plan.specialised * height, 0, sections.s_words)?;
+    cells_fault(plan.copy * height, plan.variables, 0, sections.cells)?;
     let lookup = plan.lookup;
     let width = lookup.lookup_width();
-    tables_fault(0 < lookup.mode(), width, plan.trace, 0, 0, tables)
+    let none = TableStack { count: 0, high: 0 };
+    tables_fault(0 < lookup.mode(), width, plan.trace, none, sections.tables)
 }
 
 // 9, then the first fault of the four sections, for a sound plan and what it answers for its gates.
@@ -52,15 +56,12 @@ fn test_pieces(
     plan: Plan,
     gates: GateRows,
     height: u64,
-    rows: &[u64],
-    s_words: &[u64],
-    cells: &[u64],
-    tables: &[u64],
+    sections: Sections<'_>,
     used: &mut Marks,
 ) -> Result<u64, Refusal>
     requires { (plan_fault plan ≡ 0) × (gates ≡ rows_told (gate_rows_answer plan)) × (height ≤ longest_trace) }
-    ensures number_value { answer_number result ≡ or_number (setting_of plan).labelled (pieces_under (setting_of plan) height rows.now s_words.now cells.now tables.now) }
-    ensures rows_value { IfOk result (λ given. (given ≡ 0 + length (rows_of rows.now)) × (used.new ≡ marked used.old (rows_of rows.now))) }
+    ensures number_value { answer_number result ≡ or_number (setting_of plan).labelled (pieces_under (setting_of plan) height sections.entry.rows.now sections.entry.s_words.now sections.entry.cells.now sections.entry.tables.now) }
+    ensures rows_value { IfOk result (λ given. (given ≡ 0 + length (rows_of sections.entry.rows.now)) × (used.new ≡ marked used.old (rows_of sections.entry.rows.now))) }
 {
     labels::representatives(plan.trace, plan.copy)?;
     let given = test_rows(
@@ -69,10 +70,10 @@ fn test_pieces(
         &gates.barred,
         plan.trace,
         0,
-        rows,
+        sections.rows,
         used,
     )?;
-    later_fault(plan, height, s_words, cells, tables)?;
+    later_fault(plan, height, sections)?;
     Ok(given)
 }
 
@@ -91,25 +92,16 @@ fn last_tests(outline: Outline, counts: Counts, used: Marks) -> Result<(), Refus
 }
 
 // What is wrong with a circuit by itself, for a sound plan and what it answers for its gates.
-fn contents_of(
-    plan: Plan,
-    gates: GateRows,
-    rows: &[u64],
-    s_words: &[u64],
-    cells: &[u64],
-    tables: &[u64],
-) -> Result<(), Refusal>
+fn contents_of(plan: Plan, gates: GateRows, sections: Sections<'_>) -> Result<(), Refusal>
     requires { (plan_fault plan ≡ 0) × (gates ≡ rows_told (gate_rows_answer plan)) }
-    ensures { answer_number result ≡ contents_number (setting_of plan) rows.now s_words.now cells.now tables.now }
+    ensures { answer_number result ≡ contents_number (setting_of plan) sections.entry.rows.now sections.entry.s_words.now sections.entry.cells.now sections.entry.tables.now }
 {
     let mut used = [0; MOST_GATES];
-    let given = test_pieces(
-        plan, gates, plan.trace, rows, s_words, cells, tables, &mut used,
-    )?;
+    let given = test_pieces(plan, gates, plan.trace, sections, &mut used)?;
     let counts = Counts {
         rows: given,
-        s_words: s_words.len() as u64,
-        cells: cells.len() as u64,
+        s_words: sections.s_words.len() as u64,
+        cells: sections.cells.len() as u64,
         tables: 0,
         table_rows: 0,
         phase: OPEN,
@@ -119,17 +111,10 @@ fn contents_of(
 
 // The first refusal of a circuit for which no buffer is lent: 19, 9, then those of rows, S words,
 // cells, tables and finishing. 10 and 18 are left aside.
-pub fn contents_number(
-    plan: Plan,
-    rows: &[u64],
-    s_words: &[u64],
-    cells: &[u64],
-    tables: &[u64],
-) -> Result<(), Refusal>
-    ensures { answer_number result ≡ contents_call (setting_of plan) rows.now s_words.now cells.now tables.now }
+pub fn contents_number(plan: Plan, sections: Sections<'_>) -> Result<(), Refusal>
+    ensures { answer_number result ≡ contents_call (setting_of plan) sections.entry.rows.now sections.entry.s_words.now sections.entry.cells.now sections.entry.tables.now }
 {
-    let gates = plan.parts().rows()?;
-    contents_of(plan, gates, rows, s_words, cells, tables)
+    contents_of(plan, plan.parts().rows()?, sections)
 }
 
 // 16 and 17 of a circuit whose missing rows become rows of `gate`.
@@ -165,39 +150,40 @@ pub fn unpadded_number(
     plan: Plan,
     height: u64,
     gate: u64,
-    rows: &[u64],
-    s_words: &[u64],
-    cells: &[u64],
-    tables: &[u64],
+    sections: Sections<'_>,
 ) -> Result<(), Refusal>
-    ensures { answer_number result ≡ unpadded_call (setting_of plan) height gate rows.now s_words.now cells.now tables.now }
+    ensures { answer_number result ≡ unpadded_call (setting_of plan) height gate sections.entry.rows.now sections.entry.s_words.now sections.entry.cells.now sections.entry.tables.now }
 {
     let gates = plan.parts().rows()?;
     if LONGEST_TRACE < height {
         return Err(Refusal::Parameter);
     }
     let mut used = [0; MOST_GATES];
-    test_pieces(plan, gates, height, rows, s_words, cells, tables, &mut used)?;
-    unpadded_last(plan, height, gate, s_words.len(), cells.len(), used)
+    test_pieces(plan, gates, height, sections, &mut used)?;
+    unpadded_last(
+        plan,
+        height,
+        gate,
+        sections.s_words.len(),
+        sections.cells.len(),
+        used,
+    )
 }
 
 // The first refusal of opening, rows, S words, cells, tables and finishing; 18 is left aside.
 // Of the four lent buffers only the lengths are read.
 pub fn sections_number(
     plan: Plan,
-    rows: &[u64],
-    s_words: &[u64],
-    cells: &[u64],
-    table_words: &[u64],
+    sections: Sections<'_>,
     constants: &[u64],
     copies: &[u64],
     scratch: &[u64],
     tables: &[u64],
 ) -> Result<(), Refusal>
-    ensures { answer_number result ≡ sections_number (setting_of plan) (store_of constants.now copies.now scratch.now tables.now) rows.now s_words.now cells.now table_words.now }
+    ensures { answer_number result ≡ sections_number (setting_of plan) (store_of constants.now copies.now scratch.now tables.now) sections.entry.rows.now sections.entry.s_words.now sections.entry.cells.now sections.entry.tables.now }
 {
     // this is the plan's test too, which is not made a second time
     let gates = plan.parts().rows()?;
     room_number(plan.outline(), constants, copies, scratch, tables)?;
-    contents_of(plan, gates, rows, s_words, cells, table_words)
+    contents_of(plan, gates, sections)
 }

@@ -12,32 +12,29 @@ use refusal::Refusal;
 
 pub const MOST_TABLES: u64 = 255;
 
-// Tests the record at the front of the words, after `count` tables of `high` rows in all.
+// How many tables there are, and their rows in all.
+#[derive(Clone, Copy)]
+pub struct TableStack {
+    pub count: u64,
+    pub high: u64,
+}
+
+// Tests the record at the front of the words, on top of the tables `below`.
 fn table_fault(
     lookup: bool,
     width: u64,
     trace: u64,
-    count: u64,
-    high: u64,
+    below: TableStack,
     words: &[u64],
 ) -> Result<(), Refusal>
-    requires { (width ≤ 16) × (high ≤ trace) × (trace ≤ 65536) }
-    ensures { answer_number result ≡ table_fault lookup width trace (stack count high) (front table_size words.now) }
+    requires { (width ≤ 16) × (below.high ≤ trace) × (trace ≤ 65536) }
+    ensures { answer_number result ≡ table_fault lookup width trace (stack below.count below.high) (front table_size words.now) }
 {
-    if !lookup {
-        return Err(Refusal::Table);
-    }
-    if words.len() < 2 {
-        return Err(Refusal::Table);
-    }
-    if words[0] != width {
-        return Err(Refusal::Table);
-    }
-    if MOST_TABLES <= count {
+    if !lookup || words.len() < 2 || words[0] != width || MOST_TABLES <= below.count {
         return Err(Refusal::Table);
     }
     let n = words[1];
-    if trace - high < n {
+    if trace - below.high < n {
         return Err(Refusal::Table);
     }
     let size = (width * n) as usize;
@@ -56,21 +53,19 @@ pub(crate) fn tables_fault(
     lookup: bool,
     width: u64,
     trace: u64,
-    count: u64,
-    high: u64,
+    below: TableStack,
     piece: &[u64],
 ) -> Result<(), Refusal>
-    requires { (width ≤ 16) × (count ≤ 255) × (high ≤ trace) × (trace ≤ 65536) }
-    ensures { answer_number result ≡ tables_fault lookup width trace (stack count high) (tables_of piece.now) }
+    requires { (width ≤ 16) × (below.count ≤ 255) × (below.high ≤ trace) × (trace ≤ 65536) }
+    ensures { answer_number result ≡ tables_fault lookup width trace (stack below.count below.high) (tables_of piece.now) }
 {
-    let mut t = count;
-    let mut h = high;
+    let mut stack = below;
     let mut i = 0; // goes by a record's length
     while i < piece.len() {
-        table_fault(lookup, width, trace, t, h, &piece[i..])?;
+        table_fault(lookup, width, trace, stack, &piece[i..])?;
         let n = piece[i + 1];
-        t += 1;
-        h += n;
+        stack.count += 1;
+        stack.high += n;
         i += 2 + (width * n) as usize;
     }
     Ok(())
@@ -94,46 +89,37 @@ fn write_table(
     write_same(number, high + width * trace, rows as u64, tables);
 }
 
-// How many tables there are, and their rows in all.
-#[derive(Clone, Copy)]
-pub struct TableStack {
-    pub count: u64,
-    pub high: u64,
-}
-
-// The tables of a piece without a fault, on top of `count` tables of `high` rows in all.
+// The tables of a piece without a fault, on top of the tables `below`.
 pub(crate) fn write_tables(
     width: u64,
     trace: u64,
-    count: u64,
-    high: u64,
+    below: TableStack,
     piece: &[u64],
     tables: &mut [u64],
 ) -> TableStack
-    requires width_bound { (width ≤ 16) × (trace ≤ 65536) × (count ≤ 255) × (high ≤ trace) × ((width + 1) * trace ≤ length tables.old) }
-    requires piece_value { tables_fault true width trace (stack count high) (tables_of piece.now) ≡ 0 }
-    ensures count_value { (result.count ≡ count + length (tables_of piece.now)) × (result.high ≡ sum_rows high (tables_of piece.now)) }
-    ensures tables_after { tables.new ≡ put_lines (width + 1) trace high (table_lines width count (tables_of piece.now)) tables.old }
+    requires width_bound { (width ≤ 16) × (trace ≤ 65536) × (below.count ≤ 255) × (below.high ≤ trace) × ((width + 1) * trace ≤ length tables.old) }
+    requires piece_value { tables_fault true width trace (stack below.count below.high) (tables_of piece.now) ≡ 0 }
+    ensures count_value { (result.count ≡ below.count + length (tables_of piece.now)) × (result.high ≡ sum_rows below.high (tables_of piece.now)) }
+    ensures tables_after { tables.new ≡ put_lines (width + 1) trace below.high (table_lines width below.count (tables_of piece.now)) tables.old }
 {
-    let mut t = count;
-    let mut h = high;
+    let mut stack = below;
     let mut i = 0; // goes by a record's length
     while i < piece.len() {
         let n = piece[i + 1];
         let start = i + 2;
         let end = start + (width * n) as usize;
-        t += 1;
+        stack.count += 1;
         write_table(
             width as usize,
             trace as usize,
-            t,
-            h as usize,
+            stack.count,
+            stack.high as usize,
             n as usize,
             &piece[start..end],
             tables,
         );
-        h += n;
+        stack.high += n;
         i = end;
     }
-    TableStack { count: t, high: h }
+    stack
 }

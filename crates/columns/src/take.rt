@@ -17,7 +17,7 @@ use crate::rooms::rooms_of;
 use crate::row_tests::test_rows;
 use crate::rows::write_rows;
 use crate::s_words::s_words_fault;
-use crate::tables::{MOST_TABLES, tables_fault, write_tables};
+use crate::tables::{MOST_TABLES, TableStack, tables_fault, write_tables};
 use refusal::Refusal;
 use selector::Marks;
 use tree::plan::{Outline, Parts};
@@ -41,52 +41,41 @@ pub struct Counts {
 }
 
 // Whether no count is past its section.
+#[tactic(auto, using(tree::proofs::TestLaws::tests), unfolding(pieces::specs::Setting::counts_fit))]
 fn counts_fit(outline: Outline, counts: Counts) -> bool
     requires { Small outline }
     ensures { (gs ns us : List ℕ) → result ≡ counts_fit (setting_of (plan_in outline gs ns)) (state_in counts us) }
 {
-    if outline.trace < counts.rows {
-        return false;
-    }
-    if outline.specialised * outline.trace < counts.s_words {
-        return false;
-    }
-    if outline.copy * outline.trace < counts.cells {
-        return false;
-    }
     let lookup = outline.lookup;
-    if 0 < lookup.mode() {
-        if MOST_TABLES < counts.tables {
-            return false;
-        }
-        return counts.table_rows <= outline.trace;
-    }
-    if 0 < counts.tables {
-        return false;
-    }
-    counts.table_rows <= 0
+    let (most_tables, most_rows) = if 0 < lookup.mode() {
+        (MOST_TABLES, outline.trace)
+    } else {
+        (0, 0)
+    };
+    counts.rows <= outline.trace
+        && counts.s_words <= outline.specialised * outline.trace
+        && counts.cells <= outline.copy * outline.trace
+        && counts.tables <= most_tables
+        && counts.table_rows <= most_rows
 }
 
 // Refuses a made-up state: a sound plan, open, and no count past its section.
-fn stands<'a>(parts: Parts<'a>, counts: Counts) -> Result<(), Refusal>
+fn stands(parts: Parts<'_>, counts: Counts) -> Result<(), Refusal>
     ensures { (us : List ℕ) → answer_number result ≡ pick (stands (setting_of (parts_plan parts.entry)) (state_in counts us)) 0 19 }
 {
     parts.fault()?;
-    if counts.phase != OPEN {
-        return Err(Refusal::MadeUp);
-    }
-    if !counts_fit(parts.outline, counts) {
+    if counts.phase != OPEN || !counts_fit(parts.outline, counts) {
         return Err(Refusal::MadeUp);
     }
     Ok(())
 }
 
 // Row records: gate, number of constants, constants.
-pub fn take_rows<'a>(
-    parts: Parts<'a>,
+pub fn take_rows(
+    parts: Parts<'_>,
     counts: &mut Counts,
     used: &mut Marks,
-    piece: &'a [u64],
+    piece: &[u64],
     constants: &mut [u64],
 ) -> Result<(), Refusal>
     ensures value { marked_with (answer_number result) counts.new used.new ≡ marked_of (rows_answer (with_state (parts_plan parts.entry) (state_in counts.old used.old)) piece.now constants.old) }
@@ -95,10 +84,7 @@ pub fn take_rows<'a>(
     // this is the plan's test too, which is not made a second time
     let gates = parts.rows()?;
     let outline = parts.outline;
-    if counts.phase != OPEN {
-        return Err(Refusal::MadeUp);
-    }
-    if !counts_fit(outline, *counts) {
+    if counts.phase != OPEN || !counts_fit(outline, *counts) {
         return Err(Refusal::MadeUp);
     }
     if constants.len() < rooms_of(outline).constants {
@@ -129,10 +115,10 @@ pub fn take_rows<'a>(
 }
 
 // Words of the specialised constant columns, column by column.
-pub fn take_s_words<'a>(
-    parts: Parts<'a>,
+pub fn take_s_words(
+    parts: Parts<'_>,
     counts: &mut Counts,
-    piece: &'a [u64],
+    piece: &[u64],
     constants: &mut [u64],
 ) -> Result<(), Refusal>
     ensures value { given_with (answer_number result) counts.new ≡ given_of (s_words_answer (with_state (parts_plan parts.entry) (state_in counts.old [])) piece.now constants.old) }
@@ -152,10 +138,10 @@ pub fn take_s_words<'a>(
 }
 
 // Cell words of the copy columns, column by column.
-pub fn take_cells<'a>(
-    parts: Parts<'a>,
+pub fn take_cells(
+    parts: Parts<'_>,
     counts: &mut Counts,
-    piece: &'a [u64],
+    piece: &[u64],
     copies: &mut [u64],
     scratch: &mut [u64],
 ) -> Result<(), Refusal>
@@ -165,10 +151,7 @@ pub fn take_cells<'a>(
     stands(parts, *counts)?;
     let outline = parts.outline;
     let rooms = rooms_of(outline);
-    if copies.len() < rooms.copies {
-        return Err(Refusal::ShortBuffer);
-    }
-    if scratch.len() < rooms.scratch {
+    if copies.len() < rooms.copies || scratch.len() < rooms.scratch {
         return Err(Refusal::ShortBuffer);
     }
     let total = outline.copy * outline.trace;
@@ -179,10 +162,10 @@ pub fn take_cells<'a>(
 }
 
 // Table records: width, rows, contents row by row.
-pub fn take_tables<'a>(
-    parts: Parts<'a>,
+pub fn take_tables(
+    parts: Parts<'_>,
     counts: &mut Counts,
-    piece: &'a [u64],
+    piece: &[u64],
     tables: &mut [u64],
 ) -> Result<(), Refusal>
     ensures value { given_with (answer_number result) counts.new ≡ given_of (tables_answer (with_state (parts_plan parts.entry) (state_in counts.old [])) piece.now tables.old) }
@@ -196,24 +179,14 @@ pub fn take_tables<'a>(
     let lookup = outline.lookup;
     let width = lookup.lookup_width();
     let looked = 0 < lookup.mode();
-    tables_fault(
-        looked,
-        width,
-        outline.trace,
-        counts.tables,
-        counts.table_rows,
-        piece,
-    )?;
+    let below = TableStack {
+        count: counts.tables,
+        high: counts.table_rows,
+    };
+    tables_fault(looked, width, outline.trace, below, piece)?;
     // without a lookup mode no record comes so far
     if looked {
-        let stack = write_tables(
-            width,
-            outline.trace,
-            counts.tables,
-            counts.table_rows,
-            piece,
-            tables,
-        );
+        let stack = write_tables(width, outline.trace, below, piece, tables);
         counts.tables = stack.count;
         counts.table_rows = stack.high;
     }
@@ -221,27 +194,24 @@ pub fn take_tables<'a>(
 }
 
 // Whether rows, S words and cells are all there.
+#[tactic(auto, using(tree::proofs::TestLaws::tests), unfolding(pieces::specs::Finishing::complete))]
 pub(crate) fn complete(outline: Outline, counts: Counts) -> bool
     requires { Small outline }
     ensures { (gs ns us : List ℕ) → result ≡ complete (setting_of (plan_in outline gs ns)) (state_in counts us) }
 {
-    if counts.rows != outline.trace {
-        return false;
-    }
-    if counts.s_words != outline.specialised * outline.trace {
-        return false;
-    }
-    counts.cells == outline.copy * outline.trace
+    counts.rows == outline.trace
+        && counts.s_words == outline.specialised * outline.trace
+        && counts.cells == outline.copy * outline.trace
 }
 
 // Finishing: each seen variable's value goes to its first cell, by rising index. Nothing is
 // written unless everything is complete, every gate is in a row and all of scratch is fine.
-pub fn take_finish<'a>(
-    parts: Parts<'a>,
+pub fn take_finish(
+    parts: Parts<'_>,
     counts: &mut Counts,
     used: &Marks,
     copies: &mut [u64],
-    scratch: &'a [u64],
+    scratch: &[u64],
 ) -> Result<(), Refusal>
     ensures value { given_with (answer_number result) counts.new ≡ given_of (finish_answer (with_state (parts_plan parts.entry) (state_in counts.old used.now)) (cols copies.old scratch.now)) }
     ensures copies_after { copies.new ≡ finish_left (with_state (parts_plan parts.entry) (state_in counts.old used.now)) (cols copies.old scratch.now) }
@@ -249,10 +219,7 @@ pub fn take_finish<'a>(
     stands(parts, *counts)?;
     let outline = parts.outline;
     let rooms = rooms_of(outline);
-    if copies.len() < rooms.copies {
-        return Err(Refusal::ShortBuffer);
-    }
-    if scratch.len() < rooms.scratch {
+    if copies.len() < rooms.copies || scratch.len() < rooms.scratch {
         return Err(Refusal::ShortBuffer);
     }
     if !complete(outline, *counts) {

@@ -1,5 +1,5 @@
 -- `columns::finishing::write_firsts` meets its contract. What is left to finish from the present copies is what the whole finishing gives.
-use Rattle.std.proofs.Common.{◌≡◌, refl, sym, ap, ◌∙◌, arith, ℕ, ◌+◌, ◌-◌, ◌<◌, List, true}
+use Rattle.std.proofs.Common.{◌≡◌, sym, ap, ◌∙◌, arith, ℕ, ◌+◌, ◌-◌, ◌<◌, List, true}
 use Rattle.pieces.specs.Finishing.{variable_fine, scratch_fine, finish_from}
 use Rattle.pieces.specs.CellLaws.{finish_turn, finish_done, every_at}
 use Rattle.columns.proofs.finishing.write_firsts.Goals as goal
@@ -8,9 +8,6 @@ use Rattle.columns.proofs.finishing.write_firsts.Goals as goal
 each : (variables cells : ℕ) (scratch : List ℕ) → scratch_fine variables cells scratch ≡ true → (v : ℕ) → v < variables → variable_fine cells scratch v ≡ true
 unfolding scratch_fine
 each variables cells scratch e v h = every_at variables 0 (variable_fine cells scratch) e v (omega arith) (omega arith)
-
-pub loop-v-init : goal.loop-v-init
-loop-v-init c = let z : c.args.variables - 0 ≡ c.args.variables = omega arith in (omega arith, refl, rw z)
 
 pub write_back-requires : goal.write_back-requires
 write_back-requires c =
@@ -24,9 +21,6 @@ loop-v-preserved c =
     let l = c.loop-v in
     let w = c.write_back in
     (omega arith, w.auto.copies ∙ l.invariant.1, l.invariant.2 ∙ finish_turn a.variables l.v a.scratch.now l.copies c.loop-v-test.true ∙ ap (finish_from (l.v + 1) (a.variables - (l.v + 1)) a.scratch.now) (sym w.ensures))
-
-pub shape_of-copies : goal.shape_of-copies
-shape_of-copies c = c.loop-v.invariant.1
 
 pub returns : goal.returns
 returns c =

@@ -108,10 +108,6 @@ clear-requires-3 c =
     let rooms-are : RoomsOf (setting_of plan) c.rooms_of-rooms.result = let a = c.args in c.rooms_of-rooms.ensures a.parts.gates.now a.parts.nodes.now in
     omega (arith, (opened_long plan store room).0, rooms-are.constants_are)
 
-pub shape_of-copies : goal.shape_of-copies
-shape_of-copies c =
-    c.fill_labels.auto.copies
-
 pub returns : goal.returns
 returns c =
     -- the plan that the parts are, and the four lent buffers

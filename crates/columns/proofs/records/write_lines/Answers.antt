@@ -34,32 +34,9 @@ loop-column-init c =
     let a = c.args in
     record { within = omega arith; place = omega arith; long = refl; lines = sym (lines_none a.trace a.row (cut_lines a.width a.step a.many a.words.now) a.buffer.now) }
 
-pub write_column-requires : goal.write_column-requires
-write_column-requires c =
-    let a = c.args in
-    let l = c.loop-column in
-    let h : l.column < a.width = c.loop-column-test.true in
-    (c.requires.width_le_step.1, words_in a.width a.step a.many l.column (length a.words.now) h c.requires.width_le_step.0 c.requires.many_in_bounds.0, column-in a.width a.trace a.row a.many l.column l.at (length l.buffer) (length a.buffer.now) h c.requires.width_le_step.3 c.requires.many_in_bounds.1 l.invariant.place l.invariant.long)
-
-pub overflow_add-at : goal.overflow_add-at
-overflow_add-at c =
-    let a = c.args in
-    let l = c.loop-column in
-    omega (arith, small a.width a.step a.trace a.row a.many l.column l.at c.loop-column-test.true c.requires.width_le_step.0 c.requires.width_le_step.1 c.requires.width_le_step.2 c.requires.width_le_step.3 l.invariant.place, c.requires.width_le_step.2)
-
 pub loop-column-preserved : goal.loop-column-preserved
 loop-column-preserved c =
     let a = c.args in
     let l = c.loop-column in
     let w = c.write_column in
     columns-next a.width a.step a.trace a.row a.many a.words.now a.buffer.now l.buffer l.at l.column l.invariant c.loop-column-test.true c.requires.width_le_step.3 _ w.auto.buffer w.ensures
-
-pub shape_of-buffer : goal.shape_of-buffer
-shape_of-buffer c = c.loop-column.invariant.long
-
-pub returns : goal.returns
-returns c =
-    let a = c.args in
-    let l = c.loop-column in
-    let e : l.column ≡ a.width = omega (arith, l.invariant.within, c.loop-column-test.false) in
-    rw e at l.invariant.lines

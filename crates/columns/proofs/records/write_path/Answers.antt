@@ -1,5 +1,5 @@
 -- `columns::records::write_path` meets its contract. What is left of the bits are the digits that are left to put.
-use Rattle.std.proofs.Common.{◌≡◌, refl, sym, ap, ◌∙◌, List, add-zero, arith, ℕ, ◌+◌, ◌-◌, ◌/◌, ◌%◌, ◌<◌, ◌≤◌, set, length-set}
+use Rattle.std.proofs.Common.{◌≡◌, sym, ap, ◌∙◌, List, arith, ℕ, ◌+◌, ◌-◌, ◌/◌, ◌%◌, ◌<◌, ◌≤◌, set, length-set}
 use Rattle.pieces.specs.Writing.{put}
 use Rattle.base.specs.Digits.{digits, digits_turn}
 use Rattle.columns.proofs.records.write_path.Goals as goal
@@ -14,17 +14,11 @@ digits_done : (b : List ℕ) (k i n rest : ℕ) → n ≤ i → put 1 b k (digit
 unfolding put digits
 digits_done b k i n rest h = let e : n - i ≡ 0 = omega arith in rw e
 
-pub loop-i-init : goal.loop-i-init
-loop-i-init c = let z : c.args.many - 0 ≡ c.args.many = omega arith in (refl, rw (add-zero, z))
-
 pub loop-i-preserved : goal.loop-i-preserved
 loop-i-preserved c =
     let l = c.loop-i in
     let a = c.args in
     (simp length-set l.invariant.0, l.invariant.1 ∙ digit-turn l.buffer a.at l.i a.many l.rest c.loop-i-test.true)
-
-pub shape_of-buffer : goal.shape_of-buffer
-shape_of-buffer c = c.loop-i.invariant.0
 
 pub returns : goal.returns
 returns c =

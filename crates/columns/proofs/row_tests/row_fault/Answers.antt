@@ -7,6 +7,7 @@ use Rattle.pieces.specs.Rows.{row_fault}
 use Rattle.pieces.specs.RecordLaws.{front_short, front_cut, front_whole}
 use Rattle.pieces.proofs.FaultLaws.{row_cut, row_barred, row_large, row_past, row_good, front_unknown, front_long}
 use Rattle.columns.specs.Placed.{gates_by}
+use Rattle.columns.proofs.row_tests.row_fault.Goals.{then-own-g-via-then-own-g, then-own-g-via-else-own-g+then-words-n}
 use Rattle.columns.proofs.row_tests.row_fault.Goals as goal
 
 pub returns-then-words-lt2 : goal.returns-then-words-lt2
@@ -22,12 +23,10 @@ returns-then-many-gate c =
 pub returns-then-own-g : goal.returns-then-own-g
 returns-then-own-g c =
     let a = c.args in
-    sym (front_long (gates_by a.many a.own.now a.barred.now) a.trace a.row a.words.now c.if-words-lt2.false c.if-many-gate.false c.if-own-g.true)
-
-pub returns-then-words-n : goal.returns-then-words-n
-returns-then-words-n c =
-    let a = c.args in
-    sym (ap (row_fault (gates_by a.many a.own.now a.barred.now) a.trace a.row) (front_cut row_size a.words.now c.if-words-lt2.false c.if-words-n.true) ∙ row_cut (gates_by a.many a.own.now a.barred.now) a.trace a.row)
+    elim c.then-own-g.branch [
+      | then-own-g-via-then-own-g w ↦ sym (front_long (gates_by a.many a.own.now a.barred.now) a.trace a.row a.words.now c.if-words-lt2.false c.if-many-gate.false w.if-own-g.true)
+      | then-own-g-via-else-own-g+then-words-n w ↦ sym (ap (row_fault (gates_by a.many a.own.now a.barred.now) a.trace a.row) (front_cut row_size a.words.now c.if-words-lt2.false w.if-words-n.true) ∙ row_cut (gates_by a.many a.own.now a.barred.now) a.trace a.row)
+    ]
 
 pub returns-then-barred-g-eq1 : goal.returns-then-barred-g-eq1
 returns-then-barred-g-eq1 c =

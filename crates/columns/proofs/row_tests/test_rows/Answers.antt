@@ -10,7 +10,7 @@ use Rattle.pieces.proofs.FaultLaws.{RowFine, row_cut, row_fine}
 use Rattle.columns.specs.Placed.{gates_by}
 use Rattle.refusal.proofs.Passing.{passed_up, refusal_nonzero}
 use Rattle.columns.proofs.Parts.{rest_is}
-use Rattle.columns.proofs.RowLoop.{passed_none, passed-next, passed-found, passed_fine, passed_count, passed_marks}
+use Rattle.columns.proofs.RowLoop.{passed-next, passed-found, passed_fine, passed_count, passed_marks}
 use Rattle.columns.proofs.row_tests.test_rows.Goals as goal
 
 -- a record without a fault is whole
@@ -32,15 +32,6 @@ good_row gs trace row i fault piece is none =
     let u = uncut row_size piece i (λ q. bad (ap (row_fault gs trace row) (sym q) ∙ e)) in
     record { two = u.two; fits = u.fits; fine = row_fine gs trace row (get_or piece i 0) (get_or piece (i + 1) 0) _ (ap (row_fault gs trace row) (sym u.is) ∙ e) }
 
-pub loop-i-init : goal.loop-i-init
-loop-i-init c =
-    let a = c.args in
-    passed_none (gates_by a.many a.own.now a.barred.now) a.trace a.piece.now a.used.now a.count (omega (arith, c.requires))
-
-pub row_fault-requires : goal.row_fault-requires
-row_fault-requires c =
-    c.requires.0
-
 pub returns-in_err-row_fault : goal.returns-in_err-row_fault
 returns-in_err-row_fault c =
     let a = c.args in
@@ -52,16 +43,6 @@ returns-in_err-row_fault c =
       rows_value = IfOk-from_err c.from_residual.result _ c.from_residual.ensures.0;
     }
 
-pub offset_bounds-piece-i-in-loop-i : goal.offset_bounds-piece-i-in-loop-i
-offset_bounds-piece-i-in-loop-i c =
-    let good = good_row (gates_by c.args.many c.args.own.now c.args.barred.now) c.args.trace c.loop-i.row c.loop-i.i 0 c.args.piece.now c.in_ok-row_fault.ensures refl in
-    omega (arith, good.two)
-
-pub bounds-piece-i : goal.bounds-piece-i
-bounds-piece-i c =
-    let good = good_row (gates_by c.args.many c.args.own.now c.args.barred.now) c.args.trace c.loop-i.row c.loop-i.i 0 c.args.piece.now c.in_ok-row_fault.ensures refl in
-    omega (arith, good)
-
 pub offset_bounds-used-g : goal.offset_bounds-used-g
 offset_bounds-used-g c =
     let good = good_row (gates_by c.args.many c.args.own.now c.args.barred.now) c.args.trace c.loop-i.row c.loop-i.i 0 c.args.piece.now c.in_ok-row_fault.ensures refl in
@@ -72,23 +53,8 @@ bounds-used-g c =
     let good = good_row (gates_by c.args.many c.args.own.now c.args.barred.now) c.args.trace c.loop-i.row c.loop-i.i 0 c.args.piece.now c.in_ok-row_fault.ensures refl in
     omega (arith, good.fine, c.requires.0)
 
-pub overflow_add-row : goal.overflow_add-row
-overflow_add-row c =
-    let good = good_row (gates_by c.args.many c.args.own.now c.args.barred.now) c.args.trace c.loop-i.row c.loop-i.i 0 c.args.piece.now c.in_ok-row_fault.ensures refl in
-    omega (arith, good.fine, c.requires.2)
-
-pub overflow_add-i : goal.overflow_add-i
-overflow_add-i c =
-    let good = good_row (gates_by c.args.many c.args.own.now c.args.barred.now) c.args.trace c.loop-i.row c.loop-i.i 0 c.args.piece.now c.in_ok-row_fault.ensures refl in
-    omega (arith, good)
-
 pub overflow_add-i-in-loop-i : goal.overflow_add-i-in-loop-i
 overflow_add-i-in-loop-i c =
-    let good = good_row (gates_by c.args.many c.args.own.now c.args.barred.now) c.args.trace c.loop-i.row c.loop-i.i 0 c.args.piece.now c.in_ok-row_fault.ensures refl in
-    omega (arith, good)
-
-pub offset_bounds-piece-i-in-loop-i-2 : goal.offset_bounds-piece-i-in-loop-i-2
-offset_bounds-piece-i-in-loop-i-2 c =
     let good = good_row (gates_by c.args.many c.args.own.now c.args.barred.now) c.args.trace c.loop-i.row c.loop-i.i 0 c.args.piece.now c.in_ok-row_fault.ensures refl in
     omega (arith, good)
 
@@ -99,11 +65,6 @@ bounds-piece-i-in-loop-i c =
 
 pub overflow_add-i-in-loop-i-2 : goal.overflow_add-i-in-loop-i-2
 overflow_add-i-in-loop-i-2 c =
-    let good = good_row (gates_by c.args.many c.args.own.now c.args.barred.now) c.args.trace c.loop-i.row c.loop-i.i 0 c.args.piece.now c.in_ok-row_fault.ensures refl in
-    omega (arith, good)
-
-pub loop-i-smaller : goal.loop-i-smaller
-loop-i-smaller c =
     let good = good_row (gates_by c.args.many c.args.own.now c.args.barred.now) c.args.trace c.loop-i.row c.loop-i.i 0 c.args.piece.now c.in_ok-row_fault.ensures refl in
     omega (arith, good)
 

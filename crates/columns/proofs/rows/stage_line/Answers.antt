@@ -14,14 +14,6 @@ line-by k at bits steps b₀ b₁ b₂ b₃ words h e₁ e₂ e₃ =
     let y : at + (steps + length words) * 1 ≡ at + (steps + length words) = omega arith in
     e₃ ∙ rw (e₂, e₁) (sym (rw (n, x, y) at (put_line k 1 b₀ at (digits steps bits) words (omega (arith, n)))))
 
-pub write_words-requires : goal.write_words-requires
-write_words-requires c = omega (arith, c.requires.0, c.requires.1, c.requires.2, c.write_path.auto.buffer)
-
-pub write_same-requires : goal.write_same-requires
-write_same-requires c =
-    let long : length c.write_words.new.buffer ≡ 2048 = c.write_words.auto.buffer ∙ c.write_path.auto.buffer ∙ c.requires.2 in
-    omega (arith, c.requires.0, c.requires.1, long)
-
 pub returns : goal.returns
 returns c =
     let long : length c.write_words.new.buffer ≡ 2048 = c.write_words.auto.buffer ∙ c.write_path.auto.buffer ∙ c.requires.2 in

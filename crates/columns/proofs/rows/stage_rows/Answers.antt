@@ -8,31 +8,6 @@ pub loop-rows-init : goal.loop-rows-init
 loop-rows-init c =
     let a = c.args in staging_begin a.height a.bits.now a.steps.now a.piece.now a.stage.now c.requires.height_bound.1
 
-pub offset_bounds-piece-i : goal.offset_bounds-piece-i
-offset_bounds-piece-i c =
-    let turn = staging_front c.args.height c.args.bits.now c.args.steps.now c.args.piece.now c.loop-rows.stage c.loop-rows.rows c.loop-rows.i c.loop-rows.invariant c.requires.stageable c.if-i-piece.true in
-    omega (arith, turn)
-
-pub bounds-piece-i : goal.bounds-piece-i
-bounds-piece-i c =
-    let turn = staging_front c.args.height c.args.bits.now c.args.steps.now c.args.piece.now c.loop-rows.stage c.loop-rows.rows c.loop-rows.i c.loop-rows.invariant c.requires.stageable c.if-i-piece.true in
-    omega (arith, turn)
-
-pub overflow_add-start : goal.overflow_add-start
-overflow_add-start c =
-    let turn = staging_front c.args.height c.args.bits.now c.args.steps.now c.args.piece.now c.loop-rows.stage c.loop-rows.rows c.loop-rows.i c.loop-rows.invariant c.requires.stageable c.if-i-piece.true in
-    omega (arith, turn)
-
-pub overflow_add-end : goal.overflow_add-end
-overflow_add-end c =
-    let turn = staging_front c.args.height c.args.bits.now c.args.steps.now c.args.piece.now c.loop-rows.stage c.loop-rows.rows c.loop-rows.i c.loop-rows.invariant c.requires.stageable c.if-i-piece.true in
-    omega (arith, turn)
-
-pub offset_bounds-piece-i-in-loop-rows : goal.offset_bounds-piece-i-in-loop-rows
-offset_bounds-piece-i-in-loop-rows c =
-    let turn = staging_front c.args.height c.args.bits.now c.args.steps.now c.args.piece.now c.loop-rows.stage c.loop-rows.rows c.loop-rows.i c.loop-rows.invariant c.requires.stageable c.if-i-piece.true in
-    omega (arith, turn)
-
 pub bounds-piece-i-in-loop-rows : goal.bounds-piece-i-in-loop-rows
 bounds-piece-i-in-loop-rows c =
     let turn = staging_front c.args.height c.args.bits.now c.args.steps.now c.args.piece.now c.loop-rows.stage c.loop-rows.rows c.loop-rows.i c.loop-rows.invariant c.requires.stageable c.if-i-piece.true in
@@ -42,11 +17,6 @@ pub overflow_add-end-in-loop-rows : goal.overflow_add-end-in-loop-rows
 overflow_add-end-in-loop-rows c =
     let turn = staging_front c.args.height c.args.bits.now c.args.steps.now c.args.piece.now c.loop-rows.stage c.loop-rows.rows c.loop-rows.i c.loop-rows.invariant c.requires.stageable c.if-i-piece.true in
     omega (arith, turn)
-
-pub overflow_mul-rows : goal.overflow_mul-rows
-overflow_mul-rows c =
-    let turn = staging_front c.args.height c.args.bits.now c.args.steps.now c.args.piece.now c.loop-rows.stage c.loop-rows.rows c.loop-rows.i c.loop-rows.invariant c.requires.stageable c.if-i-piece.true in
-    omega (arith, turn, c.loop-rows-test.true)
 
 pub offset_bounds-bits-g : goal.offset_bounds-bits-g
 offset_bounds-bits-g c =
@@ -68,21 +38,6 @@ bounds-steps-g c =
     let turn = staging_front c.args.height c.args.bits.now c.args.steps.now c.args.piece.now c.loop-rows.stage c.loop-rows.rows c.loop-rows.i c.loop-rows.invariant c.requires.stageable c.if-i-piece.true in
     turn.known
 
-pub offset_bounds-piece-start : goal.offset_bounds-piece-start
-offset_bounds-piece-start c =
-    let turn = staging_front c.args.height c.args.bits.now c.args.steps.now c.args.piece.now c.loop-rows.stage c.loop-rows.rows c.loop-rows.i c.loop-rows.invariant c.requires.stageable c.if-i-piece.true in
-    omega (arith, turn)
-
-pub slice_bounds-stage_line-count : goal.slice_bounds-stage_line-count
-slice_bounds-stage_line-count c =
-    let turn = staging_front c.args.height c.args.bits.now c.args.steps.now c.args.piece.now c.loop-rows.stage c.loop-rows.rows c.loop-rows.i c.loop-rows.invariant c.requires.stageable c.if-i-piece.true in
-    omega (arith, turn)
-
-pub slice_bounds-stage_line-start : goal.slice_bounds-stage_line-start
-slice_bounds-stage_line-start c =
-    let turn = staging_front c.args.height c.args.bits.now c.args.steps.now c.args.piece.now c.loop-rows.stage c.loop-rows.rows c.loop-rows.i c.loop-rows.invariant c.requires.stageable c.if-i-piece.true in
-    omega (arith, turn)
-
 pub slice_bounds-stage_line-end : goal.slice_bounds-stage_line-end
 slice_bounds-stage_line-end c =
     let turn = staging_front c.args.height c.args.bits.now c.args.steps.now c.args.piece.now c.loop-rows.stage c.loop-rows.rows c.loop-rows.i c.loop-rows.invariant c.requires.stageable c.if-i-piece.true in
@@ -97,14 +52,6 @@ stage_line-requires c =
     let n = part_length a.piece.now (l.i + 2) (get_or a.piece.now (l.i + 1) 0) (omega (arith, t.two, t.fits)) in
     let h : l.rows < 32 = c.loop-rows-test.true in
     (omega (arith, h, c.requires.height_bound.0), omega (arith, n, t.room), l.invariant.long)
-
-pub overflow_add-rows : goal.overflow_add-rows
-overflow_add-rows c =
-    omega (arith, c.loop-rows-test.true)
-
-pub loop-rows-smaller : goal.loop-rows-smaller
-loop-rows-smaller c =
-    omega (arith, c.loop-rows-test.true)
 
 pub loop-rows-preserved : goal.loop-rows-preserved
 loop-rows-preserved c =

@@ -1,8 +1,8 @@
 -- `columns::rows::write_rows` meets its contract. Each turn stages some records and writes their lines, and the rest is what is left (StageLoop).
-use Rattle.std.proofs.Common.{refl, sym, arith, ℕ, ◌+◌, ◌<◌, ◌≤◌, length, drop, length-drop}
-use Rattle.columns.specs.Placed.{told_by, Stageable, Stages}
+use Rattle.std.proofs.Common.{arith, ℕ, ◌+◌, ◌<◌, ◌≤◌, length, drop, length-drop}
+use Rattle.columns.specs.Placed.{told_by, Stages}
 use Rattle.columns.proofs.Parts.{rest_is}
-use Rattle.columns.proofs.StageLoop.{writing_begin, writing_room, writing_next, writing_lines}
+use Rattle.columns.proofs.StageLoop.{writing_room, writing_next, writing_lines}
 use Rattle.columns.proofs.rows.write_rows.Goals as goal
 
 record Turn (len trace i row next rows : ℕ) : Type 0 where
@@ -11,31 +11,6 @@ record Turn (len trace i row next rows : ℕ) : Type 0 where
   pub low : len ≤ 18446744073709551615
   pub few : rows ≤ 32
   pub room : row + rows ≤ trace
-
-pub loop-i-init : goal.loop-i-init
-loop-i-init c =
-    let a = c.args in
-    writing_begin a.height a.trace a.count a.piece.now a.constants.now a.gates.bits a.gates.steps _ refl
-
-pub stage_rows-staged-requires : goal.stage_rows-staged-requires
-stage_rows-staged-requires c =
-    let a = c.args in
-    let l = c.loop-i in
-    let q : Stageable a.height a.gates.steps (drop l.i a.piece.now) =
-    record {
-      gates = told_by a.gates;
-      trace = a.trace;
-      count = l.row;
-      few = c.requires.trace_bound.2;
-      room = c.requires.fits;
-      no_fault = l.invariant.fine (told_by a.gates) c.requires.piece_value;
-    } in
-    record { height_bound = (c.requires.trace_bound.1, l.invariant.staged); stageable = rw (rest_is a.piece.now l.i) q }
-
-pub slice_bounds-write_lines-end : goal.slice_bounds-write_lines-end
-slice_bounds-write_lines-end c =
-    let first : Stages c.args.height c.args.gates.bits c.args.gates.steps (drop c.loop-i.i c.args.piece.now) c.stage_rows-staged.new.stage c.stage_rows-staged.result.next c.stage_rows-staged.result.rows = rw (rest_is c.args.piece.now c.loop-i.i) at c.stage_rows-staged.ensures in
-    sym (first).long
 
 pub write_lines-requires : goal.write_lines-requires
 write_lines-requires c =
@@ -73,40 +48,6 @@ overflow_add-row c =
     } in
     omega (arith, turn, c.requires.trace_bound.0)
 
-pub overflow_add-i : goal.overflow_add-i
-overflow_add-i c =
-    let first : Stages c.args.height c.args.gates.bits c.args.gates.steps (drop c.loop-i.i c.args.piece.now) c.stage_rows-staged.new.stage c.stage_rows-staged.result.next c.stage_rows-staged.result.rows = rw (rest_is c.args.piece.now c.loop-i.i) at c.stage_rows-staged.ensures in
-    let turn : Turn (length c.args.piece.now) c.args.trace c.loop-i.i c.loop-i.row c.stage_rows-staged.result.next c.stage_rows-staged.result.rows = let a = c.args in
-    let l = c.loop-i in
-    let p = first in
-    let h : l.i < length a.piece.now = c.loop-i-test.true in
-    let n = length-drop l.i a.piece.now in
-    record {
-      some = (p.some (omega (arith, h, n))).0;
-      within = omega (arith, p.within, n, h);
-      low = omega arith;
-      few = p.few;
-      room = writing_room a.height a.trace a.count a.piece.now a.constants.now a.gates.bits a.gates.steps l.constants l.stage l.row l.i l.invariant _ _ _ p (told_by a.gates) c.requires.piece_value h;
-    } in
-    omega (arith, turn)
-
-pub loop-i-smaller : goal.loop-i-smaller
-loop-i-smaller c =
-    let first : Stages c.args.height c.args.gates.bits c.args.gates.steps (drop c.loop-i.i c.args.piece.now) c.stage_rows-staged.new.stage c.stage_rows-staged.result.next c.stage_rows-staged.result.rows = rw (rest_is c.args.piece.now c.loop-i.i) at c.stage_rows-staged.ensures in
-    let turn : Turn (length c.args.piece.now) c.args.trace c.loop-i.i c.loop-i.row c.stage_rows-staged.result.next c.stage_rows-staged.result.rows = let a = c.args in
-    let l = c.loop-i in
-    let p = first in
-    let h : l.i < length a.piece.now = c.loop-i-test.true in
-    let n = length-drop l.i a.piece.now in
-    record {
-      some = (p.some (omega (arith, h, n))).0;
-      within = omega (arith, p.within, n, h);
-      low = omega arith;
-      few = p.few;
-      room = writing_room a.height a.trace a.count a.piece.now a.constants.now a.gates.bits a.gates.steps l.constants l.stage l.row l.i l.invariant _ _ _ p (told_by a.gates) c.requires.piece_value h;
-    } in
-    omega (arith, turn)
-
 pub loop-i-preserved : goal.loop-i-preserved
 loop-i-preserved c =
     let first : Stages c.args.height c.args.gates.bits c.args.gates.steps (drop c.loop-i.i c.args.piece.now) c.stage_rows-staged.new.stage c.stage_rows-staged.result.next c.stage_rows-staged.result.rows = rw (rest_is c.args.piece.now c.loop-i.i) at c.stage_rows-staged.ensures in
@@ -114,9 +55,6 @@ loop-i-preserved c =
     let l = c.loop-i in
     let w = c.write_lines in
     writing_next a.height a.trace a.count a.piece.now a.constants.now a.gates.bits a.gates.steps l.constants l.stage l.row l.i l.invariant _ _ _ (first) _ w.auto.buffer w.ensures
-
-pub shape_of-constants : goal.shape_of-constants
-shape_of-constants c = c.loop-i.invariant.long
 
 pub returns : goal.returns
 returns c =

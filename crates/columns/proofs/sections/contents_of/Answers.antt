@@ -25,7 +25,7 @@ returns-in_err-given c =
     let a = c.args in
     let up = passed_up c.from_residual.result _ c.from_residual.ensures.1 in
     let e = c.in_err-given.ensures.number_value in
-    up ∙ (e ∙ sym (parted (setting_of a.plan) a.rows.now a.s_words.now a.cells.now a.tables.now ∙ first_found _ _ (λ z. refusal_nonzero _ (e ∙ z))))
+    up ∙ (e ∙ sym (parted (setting_of a.plan) a.sections.rows.now a.sections.s_words.now a.sections.cells.now a.sections.tables.now ∙ first_found _ _ (λ z. refusal_nonzero _ (e ∙ z))))
 
 pub last_tests-requires : goal.last_tests-requires
 last_tests-requires c =
@@ -39,8 +39,8 @@ returns c =
     let s : State =
     record {
       row_count = c.in_ok-given.given;
-      word_count = length a.s_words.now;
-      cell_count = length a.cells.now;
+      word_count = length a.sections.s_words.now;
+      cell_count = length a.sections.cells.now;
       table_count = 0;
       stacked = 0;
       used = c.test_pieces.new.used;
@@ -48,5 +48,5 @@ returns c =
     } in
     c.last_tests.ensures a.plan.gates a.plan.nodes
     ∙ rw c.outline.ensures refl
-    ∙ last_same (setting_of a.plan) a.rows.now a.s_words.now a.cells.now a.tables.now s m.0 refl refl m.1
-    ∙ sym (parted (setting_of a.plan) a.rows.now a.s_words.now a.cells.now a.tables.now ∙ first-none _ _ (sym c.in_ok-given.ensures.number_value))
+    ∙ last_same (setting_of a.plan) a.sections.rows.now a.sections.s_words.now a.sections.cells.now a.sections.tables.now s m.0 refl refl m.1
+    ∙ sym (parted (setting_of a.plan) a.sections.rows.now a.sections.s_words.now a.sections.cells.now a.sections.tables.now ∙ first-none _ _ (sym c.in_ok-given.ensures.number_value))

@@ -51,6 +51,6 @@ tables_fault-requires c =
 pub returns : goal.returns
 returns c =
     -- the tables' number: mode and width are the plan's
-    let in_tables : let a = c.args in answer_number c.tables_fault.result ≡ tables_fault (ltb 0 (mode_of a.plan.lookup)) (width_of a.plan.lookup) a.plan.trace (stack 0 0) (tables_of a.tables.now) = c.tables_fault.ensures ∙ rw (c.mode.ensures, c.lookup_width-width.ensures) in
+    let in_tables : let a = c.args in answer_number c.tables_fault.result ≡ tables_fault (ltb 0 (mode_of a.plan.lookup)) (width_of a.plan.lookup) a.plan.trace (stack 0 0) (tables_of a.sections.tables.now) = c.tables_fault.ensures ∙ rw (c.mode.ensures, c.lookup_width-width.ensures) in
     let e = in_tables in
     e ∙ sym (first-none _ _ (sym c.in_ok-s_words_fault.ensures) ∙ first-none _ _ (sym c.in_ok-cells_fault.ensures))

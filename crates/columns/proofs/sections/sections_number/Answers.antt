@@ -16,7 +16,7 @@ pub returns-in_err-gates : goal.returns-in_err-gates
 returns-in_err-gates c =
     let a = c.args in
     let told = gates_refused a.plan _ (c.in_err-gates.ensures.number ∙ rw c.parts.ensures) in
-    passed_up c.from_residual.result _ c.from_residual.ensures.1 ∙ told.1 ∙ number_19 a.plan (store_of a.constants.now a.copies.now a.scratch.now a.tables.now) a.rows.now a.s_words.now a.cells.now a.table_words.now told.0
+    passed_up c.from_residual.result _ c.from_residual.ensures.1 ∙ told.1 ∙ number_19 a.plan (store_of a.constants.now a.copies.now a.scratch.now a.tables.now) a.sections.rows.now a.sections.s_words.now a.sections.cells.now a.sections.tables.now told.0
 
 pub room_number-requires : goal.room_number-requires
 room_number-requires c =
@@ -33,7 +33,7 @@ returns-in_err-room_number c =
     let no_fault : plan_fault c.args.plan ≡ 0 = gates-sound c.args.plan (c.in_ok-gates.ensures.number ∙ rw c.parts.ensures) in
     let k = short_room (room_to_open (setting_of a.plan) b) (refusal_number r) short-is (refusal_nonzero r) in
     let up = passed_up c.from_residual-in_err-room_number.result _ c.from_residual-in_err-room_number.ensures.1 in
-    up ∙ (k.1 ∙ number_10 a.plan b a.rows.now a.s_words.now a.cells.now a.table_words.now no_fault k.0)
+    up ∙ (k.1 ∙ number_10 a.plan b a.sections.rows.now a.sections.s_words.now a.sections.cells.now a.sections.tables.now no_fault k.0)
 
 pub contents_of-requires : goal.contents_of-requires
 contents_of-requires c =
@@ -47,4 +47,4 @@ returns c =
     let no_fault : plan_fault c.args.plan ≡ 0 = gates-sound c.args.plan (c.in_ok-gates.ensures.number ∙ rw c.parts.ensures) in
     let a = c.args in
     let b = store_of a.constants.now a.copies.now a.scratch.now a.tables.now in
-    c.contents_of.ensures ∙ number_contents a.plan b a.rows.now a.s_words.now a.cells.now a.table_words.now no_fault (long_room (room_to_open (setting_of a.plan) b) 0 short-is refl)
+    c.contents_of.ensures ∙ number_contents a.plan b a.sections.rows.now a.sections.s_words.now a.sections.cells.now a.sections.tables.now no_fault (long_room (room_to_open (setting_of a.plan) b) 0 short-is refl)

@@ -42,22 +42,19 @@ returns-in_err-given c =
     let told : GatesOf a.plan a.gates = gates-of a.plan a.gates c.requires.0 c.requires.1 in
     let r = c.in_err-given.field-0.0 in
     -- the rows' number: the gates' constants are the plan's
-    let in_rows : refusal_number r ≡ rows_fault (gates_of (setting_of a.plan)) a.plan.trace 0 (rows_of a.rows.now) = c.in_err-given.ensures.number_value ∙ gates_fault a.plan a.gates told a.plan.trace 0 (rows_of a.rows.now) in
+    let in_rows : refusal_number r ≡ rows_fault (gates_of (setting_of a.plan)) a.plan.trace 0 (rows_of a.sections.rows.now) = c.in_err-given.ensures.number_value ∙ gates_fault a.plan a.gates told a.plan.trace 0 (rows_of a.sections.rows.now) in
     let unrefused : (setting_of a.plan).labelled ≡ 0 = sym (c.in_ok-representatives.ensures.number_value ∙ representatives-are a.plan.trace a.plan.copy fine.ranges_fit_too) in
     let f = c.from_residual-in_err-given in record {
       number_value = passed_up f.result _ f.ensures.1 ∙ in_rows ∙ sym (first-none _ _ unrefused ∙ first_found _ _ (λ z. refusal_nonzero r (in_rows ∙ z)));
       rows_value = IfOk-from_err f.result _ f.ensures.0;
     }
 
-pub later_fault-requires : goal.later_fault-requires
-later_fault-requires c = (c.requires.0, c.requires.2)
-
 pub returns-in_err-later_fault : goal.returns-in_err-later_fault
 returns-in_err-later_fault c =
     let a = c.args in
     let fine : Sound a.plan = sound a.plan c.requires.0 in
     let told : GatesOf a.plan a.gates = gates-of a.plan a.gates c.requires.0 c.requires.1 in
-    let in_rows : 0 ≡ rows_fault (gates_of (setting_of a.plan)) a.plan.trace 0 (rows_of a.rows.now) = c.in_ok-given.ensures.number_value ∙ gates_fault a.plan a.gates told a.plan.trace 0 (rows_of a.rows.now) in
+    let in_rows : 0 ≡ rows_fault (gates_of (setting_of a.plan)) a.plan.trace 0 (rows_of a.sections.rows.now) = c.in_ok-given.ensures.number_value ∙ gates_fault a.plan a.gates told a.plan.trace 0 (rows_of a.sections.rows.now) in
     let unrefused : (setting_of a.plan).labelled ≡ 0 = sym (c.in_ok-representatives.ensures.number_value ∙ representatives-are a.plan.trace a.plan.copy fine.ranges_fit_too) in
     let f = c.from_residual-in_err-later_fault in record {
       number_value = passed_up f.result _ f.ensures.1 ∙ c.in_err-later_fault.ensures ∙ sym (first-none _ _ unrefused ∙ first-none _ _ (sym in_rows));
@@ -69,6 +66,6 @@ returns c =
     let a = c.args in
     let fine : Sound a.plan = sound a.plan c.requires.0 in
     let told : GatesOf a.plan a.gates = gates-of a.plan a.gates c.requires.0 c.requires.1 in
-    let in_rows : 0 ≡ rows_fault (gates_of (setting_of a.plan)) a.plan.trace 0 (rows_of a.rows.now) = c.in_ok-given.ensures.number_value ∙ gates_fault a.plan a.gates told a.plan.trace 0 (rows_of a.rows.now) in
+    let in_rows : 0 ≡ rows_fault (gates_of (setting_of a.plan)) a.plan.trace 0 (rows_of a.sections.rows.now) = c.in_ok-given.ensures.number_value ∙ gates_fault a.plan a.gates told a.plan.trace 0 (rows_of a.sections.rows.now) in
     let unrefused : (setting_of a.plan).labelled ≡ 0 = sym (c.in_ok-representatives.ensures.number_value ∙ representatives-are a.plan.trace a.plan.copy fine.ranges_fit_too) in
     record { number_value = c.in_ok-later_fault.ensures ∙ sym (first-none _ _ unrefused ∙ first-none _ _ (sym in_rows)); rows_value = c.in_ok-given.ensures.rows_value }

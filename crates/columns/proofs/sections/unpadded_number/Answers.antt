@@ -46,7 +46,7 @@ returns-in_err-test_pieces c =
     let no_fault : plan_fault c.args.plan ≡ 0 = gates-sound c.args.plan (c.in_ok-gates.ensures.number ∙ rw c.parts.ensures) in
     let up = passed_up c.from_residual-in_err-test_pieces.result _ c.from_residual-in_err-test_pieces.ensures.1 in
     let e = c.in_err-test_pieces.ensures.number_value in
-    up ∙ (e ∙ sym (parted a.plan a.height a.gate a.rows.now a.s_words.now a.cells.now a.tables.now no_fault c.if-height-gt-LONGEST_TRACE.false ∙ first_found _ _ (λ z. refusal_nonzero _ (e ∙ z))))
+    up ∙ (e ∙ sym (parted a.plan a.height a.gate a.sections.rows.now a.sections.s_words.now a.sections.cells.now a.sections.tables.now no_fault c.if-height-gt-LONGEST_TRACE.false ∙ first_found _ _ (λ z. refusal_nonzero _ (e ∙ z))))
 
 pub unpadded_last-requires : goal.unpadded_last-requires
 unpadded_last-requires c =
@@ -59,5 +59,5 @@ returns c =
     let a = c.args in
     let t = c.in_ok-test_pieces.ensures in
     c.unpadded_last.ensures
-    ∙ ap (unpadded_last (setting_of a.plan) a.height a.gate (length a.s_words.now) (length a.cells.now)) t.rows_value.1
-    ∙ sym (parted a.plan a.height a.gate a.rows.now a.s_words.now a.cells.now a.tables.now no_fault c.if-height-gt-LONGEST_TRACE.false ∙ first-none _ _ (sym t.number_value))
+    ∙ ap (unpadded_last (setting_of a.plan) a.height a.gate (length a.sections.s_words.now) (length a.sections.cells.now)) t.rows_value.1
+    ∙ sym (parted a.plan a.height a.gate a.sections.rows.now a.sections.s_words.now a.sections.cells.now a.sections.tables.now no_fault c.if-height-gt-LONGEST_TRACE.false ∙ first-none _ _ (sym t.number_value))

@@ -31,10 +31,7 @@ good_table lookup width trace t h i ws none =
     record { clean = e; whole-record = u; wide = f.wide; few = f.few; room = f.room; end = omega (arith, u.two, u.fits, w) }
 
 pub loop-i-init : goal.loop-i-init
-loop-i-init c = let a = c.args in (c.requires.1, c.requires.2, looking_begin table_size (table_fault a.lookup a.width a.trace) stack_next a.piece.now (stack a.count a.high))
-
-pub table_fault-requires : goal.table_fault-requires
-table_fault-requires c = (c.requires.0, c.loop-i.invariant.1, c.requires.3)
+loop-i-init c = let a = c.args in (c.requires.1, c.requires.2, looking_begin table_size (table_fault a.lookup a.width a.trace) stack_next a.piece.now (stack a.below.count a.below.high))
 
 pub returns-in_err-table_fault : goal.returns-in_err-table_fault
 unfolding tables_of
@@ -42,72 +39,52 @@ returns-in_err-table_fault c =
     let a = c.args in
     let l = c.loop-i in
     let up = passed_up c.from_residual.result _ c.from_residual.ensures.1 in
-    let e = c.in_err-table_fault.ensures ∙ ap (λ (ws : List ℕ). table_fault a.lookup a.width a.trace (stack l.t l.h) (front table_size ws)) (rest_is a.piece.now l.i) in
+    let e = c.in_err-table_fault.ensures ∙ ap (λ (ws : List ℕ). table_fault a.lookup a.width a.trace (stack l.stack.count l.stack.high) (front table_size ws)) (rest_is a.piece.now l.i) in
     let some = refusal_nonzero c.in_err-table_fault.field-0.0 in
-    up ∙ (e ∙ sym (looking-found table_size (table_fault a.lookup a.width a.trace) stack_next a.piece.now (stack a.count a.high) (stack l.t l.h) l.i l.invariant.2 (omega arith) (λ z. some (e ∙ z))))
-
-pub overflow_add-n : goal.overflow_add-n
-overflow_add-n c =
-    let good = good_table c.args.lookup c.args.width c.args.trace c.loop-i.t c.loop-i.h c.loop-i.i c.args.piece.now c.in_ok-table_fault.ensures in
-    omega (arith, good.whole-record.two)
-
-pub offset_bounds-piece-i-in-loop-i : goal.offset_bounds-piece-i-in-loop-i
-offset_bounds-piece-i-in-loop-i c =
-    let good = good_table c.args.lookup c.args.width c.args.trace c.loop-i.t c.loop-i.h c.loop-i.i c.args.piece.now c.in_ok-table_fault.ensures in
-    omega (arith, good.whole-record.two)
+    up ∙ (e ∙ sym (looking-found table_size (table_fault a.lookup a.width a.trace) stack_next a.piece.now (stack a.below.count a.below.high) (stack l.stack.count l.stack.high) l.i l.invariant.2 (omega arith) (λ z. some (e ∙ z))))
 
 pub bounds-piece-i : goal.bounds-piece-i
 bounds-piece-i c =
-    let good = good_table c.args.lookup c.args.width c.args.trace c.loop-i.t c.loop-i.h c.loop-i.i c.args.piece.now c.in_ok-table_fault.ensures in
+    let good = good_table c.args.lookup c.args.width c.args.trace c.loop-i.stack.count c.loop-i.stack.high c.loop-i.i c.args.piece.now c.in_ok-table_fault.ensures in
     omega (arith, good.whole-record.two)
 
-pub overflow_add-t : goal.overflow_add-t
-overflow_add-t c =
-    let good = good_table c.args.lookup c.args.width c.args.trace c.loop-i.t c.loop-i.h c.loop-i.i c.args.piece.now c.in_ok-table_fault.ensures in
-    omega (arith, good.few)
-
-pub overflow_add-h : goal.overflow_add-h
-overflow_add-h c =
-    let good = good_table c.args.lookup c.args.width c.args.trace c.loop-i.t c.loop-i.h c.loop-i.i c.args.piece.now c.in_ok-table_fault.ensures in
+pub overflow_add-stack-in-loop-i : goal.overflow_add-stack-in-loop-i
+overflow_add-stack-in-loop-i c =
+    let good = good_table c.args.lookup c.args.width c.args.trace c.loop-i.stack.count c.loop-i.stack.high c.loop-i.i c.args.piece.now c.in_ok-table_fault.ensures in
     omega (arith, good.room, c.requires.3)
 
 pub overflow_add-i : goal.overflow_add-i
 overflow_add-i c =
-    let good = good_table c.args.lookup c.args.width c.args.trace c.loop-i.t c.loop-i.h c.loop-i.i c.args.piece.now c.in_ok-table_fault.ensures in
+    let good = good_table c.args.lookup c.args.width c.args.trace c.loop-i.stack.count c.loop-i.stack.high c.loop-i.i c.args.piece.now c.in_ok-table_fault.ensures in
     omega (arith, good.whole-record.two)
 
 pub overflow_mul-i : goal.overflow_mul-i
 overflow_mul-i c =
-    let good = good_table c.args.lookup c.args.width c.args.trace c.loop-i.t c.loop-i.h c.loop-i.i c.args.piece.now c.in_ok-table_fault.ensures in
+    let good = good_table c.args.lookup c.args.width c.args.trace c.loop-i.stack.count c.loop-i.stack.high c.loop-i.i c.args.piece.now c.in_ok-table_fault.ensures in
     omega (arith, good.end)
 
 pub overflow_add-i-in-loop-i : goal.overflow_add-i-in-loop-i
 overflow_add-i-in-loop-i c =
-    let good = good_table c.args.lookup c.args.width c.args.trace c.loop-i.t c.loop-i.h c.loop-i.i c.args.piece.now c.in_ok-table_fault.ensures in
-    omega (arith, good.end)
-
-pub loop-i-smaller : goal.loop-i-smaller
-loop-i-smaller c =
-    let good = good_table c.args.lookup c.args.width c.args.trace c.loop-i.t c.loop-i.h c.loop-i.i c.args.piece.now c.in_ok-table_fault.ensures in
+    let good = good_table c.args.lookup c.args.width c.args.trace c.loop-i.stack.count c.loop-i.stack.high c.loop-i.i c.args.piece.now c.in_ok-table_fault.ensures in
     omega (arith, good.end)
 
 pub loop-i-preserved : goal.loop-i-preserved
 loop-i-preserved c =
-    let good = good_table c.args.lookup c.args.width c.args.trace c.loop-i.t c.loop-i.h c.loop-i.i c.args.piece.now c.in_ok-table_fault.ensures in
+    let good = good_table c.args.lookup c.args.width c.args.trace c.loop-i.stack.count c.loop-i.stack.high c.loop-i.i c.args.piece.now c.in_ok-table_fault.ensures in
     let a = c.args in
     let l = c.loop-i in
     let ws = a.piece.now in
     let g = good in
     let n = get_or ws (l.i + 1) 0 in
-    let bad : table_fault a.lookup a.width a.trace (stack l.t l.h) cut ≢ 0 = λ z. omega (arith, z, table-cut a.lookup a.width a.trace (stack l.t l.h)) in
-    let next = looking-next table_size (table_fault a.lookup a.width a.trace) stack_next a.piece.now (stack a.count a.high) (stack l.t l.h) l.i l.invariant.2 bad g.clean in
-    let s : stack_next (stack l.t l.h) (front table_size (drop l.i ws)) ≡ stack (l.t + 1) (l.h + get_or ws (l.i + 1) 0) = ap (stack_next (stack l.t l.h)) g.whole-record.is ∙ rw (add-one l.t) in
+    let bad : table_fault a.lookup a.width a.trace (stack l.stack.count l.stack.high) cut ≢ 0 = λ z. omega (arith, z, table-cut a.lookup a.width a.trace (stack l.stack.count l.stack.high)) in
+    let next = looking-next table_size (table_fault a.lookup a.width a.trace) stack_next a.piece.now (stack a.below.count a.below.high) (stack l.stack.count l.stack.high) l.i l.invariant.2 bad g.clean in
+    let s : stack_next (stack l.stack.count l.stack.high) (front table_size (drop l.i ws)) ≡ stack (l.stack.count + 1) (l.stack.high + get_or ws (l.i + 1) 0) = ap (stack_next (stack l.stack.count l.stack.high)) g.whole-record.is ∙ rw (add-one l.stack.count) in
     let w : get_or ws l.i 0 * n ≡ a.width * n = ap (λ (k : ℕ). k * n) g.wide in
     let j : l.i + 2 + get_or ws l.i 0 * n ≡ l.i + (2 + a.width * n) = omega (arith, w) in (
       omega (arith, g.few),
       g.room,
-      subst (λ (k : ℕ). Looking table_size (table_fault a.lookup a.width a.trace) stack_next ws (stack a.count a.high) (stack (l.t + 1) (l.h + get_or ws (l.i + 1) 0)) k) j
-          (subst (λ (q : Stack). Looking table_size (table_fault a.lookup a.width a.trace) stack_next ws (stack a.count a.high) q (l.i + 2 + get_or ws l.i 0 * get_or ws (l.i + 1) 0)) s next),
+      subst (λ (k : ℕ). Looking table_size (table_fault a.lookup a.width a.trace) stack_next ws (stack a.below.count a.below.high) (stack (l.stack.count + 1) (l.stack.high + get_or ws (l.i + 1) 0)) k) j
+          (subst (λ (q : Stack). Looking table_size (table_fault a.lookup a.width a.trace) stack_next ws (stack a.below.count a.below.high) q (l.i + 2 + get_or ws l.i 0 * get_or ws (l.i + 1) 0)) s next),
     )
 
 pub returns : goal.returns
@@ -115,4 +92,4 @@ unfolding tables_of
 returns c =
     let a = c.args in
     let l = c.loop-i in
-    sym (looking_done table_size (table_fault a.lookup a.width a.trace) stack_next a.piece.now (stack a.count a.high) (stack l.t l.h) l.i l.invariant.2 (omega arith))
+    sym (looking_done table_size (table_fault a.lookup a.width a.trace) stack_next a.piece.now (stack a.below.count a.below.high) (stack l.stack.count l.stack.high) l.i l.invariant.2 (omega arith))

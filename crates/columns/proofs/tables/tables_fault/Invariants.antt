@@ -7,7 +7,7 @@ use Rattle.columns.specs.Stacked.{stack}
 use Rattle.columns.proofs.tables.tables_fault.Given as goal
 
 abbrev pub invariant-loop-i : goal.invariant-loop-i
-invariant-loop-i l = (l.t ≤ 255) × (l.h ≤ l.trace) × Looking table_size (table_fault l.lookup l.width l.trace) stack_next l.piece (stack l.count l.high) (stack l.t l.h) l.i
+invariant-loop-i l = (l.stack.count ≤ 255) × (l.stack.high ≤ l.trace) × Looking table_size (table_fault l.lookup l.width l.trace) stack_next l.piece (stack l.fn.below.count l.fn.below.high) (stack l.stack.count l.stack.high) l.i
 
 abbrev pub decreases-loop-i : goal.decreases-loop-i
 decreases-loop-i l = length l.piece - l.i

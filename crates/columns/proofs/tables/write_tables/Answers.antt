@@ -18,196 +18,100 @@ record Turn (width trace t h i : ℕ) (piece : List ℕ) : Type 0 where
   pub end : i + 2 + width * get_or piece (i + 1) 0 ≤ length piece
 
 pub loop-i-init : goal.loop-i-init
-loop-i-init c = let a = c.args in stacking_begin a.width a.trace a.count a.high a.piece.now a.tables.now c.requires.piece_value
-
-pub overflow_add-n : goal.overflow_add-n
-overflow_add-n c =
-    let front-record : Going table_size (table_fault true c.args.width c.args.trace) stack_next c.args.piece.now (stack c.loop-i.t c.loop-i.h) c.loop-i.i c.loop-i.invariant.left = let a = c.args in
-    let l = c.loop-i in
-    let s = stack l.t l.h in
-    let bad : table_fault true a.width a.trace s cut ≢ 0 = λ z. omega (arith, z, table-cut true a.width a.trace s) in
-    going table_size (table_fault true a.width a.trace) stack_next a.piece.now s l.i l.invariant.left l.invariant.rest bad l.invariant.fine c.loop-i-test.true in
-    let turn : Turn c.args.width c.args.trace c.loop-i.t c.loop-i.h c.loop-i.i c.args.piece.now = let a = c.args in
-    let l = c.loop-i in
-    let ws = a.piece.now in
-    let g = front-record in
-    let f = table_fine true a.width a.trace (stack l.t l.h) (get_or ws l.i 0) (get_or ws (l.i + 1) 0) _ g.good in
-    let w : get_or ws l.i 0 * get_or ws (l.i + 1) 0 ≡ a.width * get_or ws (l.i + 1) 0 = ap (λ (k : ℕ). k * get_or ws (l.i + 1) 0) f.wide in
-    record { two = g.two; wide = f.wide; few = f.few; room = f.room; end = omega (arith, g.two, g.fits, w) } in
-    omega (arith, turn)
-
-pub offset_bounds-piece-i : goal.offset_bounds-piece-i
-offset_bounds-piece-i c =
-    let front-record : Going table_size (table_fault true c.args.width c.args.trace) stack_next c.args.piece.now (stack c.loop-i.t c.loop-i.h) c.loop-i.i c.loop-i.invariant.left = let a = c.args in
-    let l = c.loop-i in
-    let s = stack l.t l.h in
-    let bad : table_fault true a.width a.trace s cut ≢ 0 = λ z. omega (arith, z, table-cut true a.width a.trace s) in
-    going table_size (table_fault true a.width a.trace) stack_next a.piece.now s l.i l.invariant.left l.invariant.rest bad l.invariant.fine c.loop-i-test.true in
-    let turn : Turn c.args.width c.args.trace c.loop-i.t c.loop-i.h c.loop-i.i c.args.piece.now = let a = c.args in
-    let l = c.loop-i in
-    let ws = a.piece.now in
-    let g = front-record in
-    let f = table_fine true a.width a.trace (stack l.t l.h) (get_or ws l.i 0) (get_or ws (l.i + 1) 0) _ g.good in
-    let w : get_or ws l.i 0 * get_or ws (l.i + 1) 0 ≡ a.width * get_or ws (l.i + 1) 0 = ap (λ (k : ℕ). k * get_or ws (l.i + 1) 0) f.wide in
-    record { two = g.two; wide = f.wide; few = f.few; room = f.room; end = omega (arith, g.two, g.fits, w) } in
-    omega (arith, turn)
+loop-i-init c = let a = c.args in stacking_begin a.width a.trace a.below.count a.below.high a.piece.now a.tables.now c.requires.piece_value
 
 pub bounds-piece-i : goal.bounds-piece-i
 bounds-piece-i c =
-    let front-record : Going table_size (table_fault true c.args.width c.args.trace) stack_next c.args.piece.now (stack c.loop-i.t c.loop-i.h) c.loop-i.i c.loop-i.invariant.left = let a = c.args in
+    let front-record : Going table_size (table_fault true c.args.width c.args.trace) stack_next c.args.piece.now (stack c.loop-i.stack.count c.loop-i.stack.high) c.loop-i.i c.loop-i.invariant.left = let a = c.args in
     let l = c.loop-i in
-    let s = stack l.t l.h in
+    let s = stack l.stack.count l.stack.high in
     let bad : table_fault true a.width a.trace s cut ≢ 0 = λ z. omega (arith, z, table-cut true a.width a.trace s) in
     going table_size (table_fault true a.width a.trace) stack_next a.piece.now s l.i l.invariant.left l.invariant.rest bad l.invariant.fine c.loop-i-test.true in
-    let turn : Turn c.args.width c.args.trace c.loop-i.t c.loop-i.h c.loop-i.i c.args.piece.now = let a = c.args in
+    let turn : Turn c.args.width c.args.trace c.loop-i.stack.count c.loop-i.stack.high c.loop-i.i c.args.piece.now = let a = c.args in
     let l = c.loop-i in
     let ws = a.piece.now in
     let g = front-record in
-    let f = table_fine true a.width a.trace (stack l.t l.h) (get_or ws l.i 0) (get_or ws (l.i + 1) 0) _ g.good in
-    let w : get_or ws l.i 0 * get_or ws (l.i + 1) 0 ≡ a.width * get_or ws (l.i + 1) 0 = ap (λ (k : ℕ). k * get_or ws (l.i + 1) 0) f.wide in
-    record { two = g.two; wide = f.wide; few = f.few; room = f.room; end = omega (arith, g.two, g.fits, w) } in
-    omega (arith, turn, c.requires.width_bound)
-
-pub overflow_add-start : goal.overflow_add-start
-overflow_add-start c =
-    let front-record : Going table_size (table_fault true c.args.width c.args.trace) stack_next c.args.piece.now (stack c.loop-i.t c.loop-i.h) c.loop-i.i c.loop-i.invariant.left = let a = c.args in
-    let l = c.loop-i in
-    let s = stack l.t l.h in
-    let bad : table_fault true a.width a.trace s cut ≢ 0 = λ z. omega (arith, z, table-cut true a.width a.trace s) in
-    going table_size (table_fault true a.width a.trace) stack_next a.piece.now s l.i l.invariant.left l.invariant.rest bad l.invariant.fine c.loop-i-test.true in
-    let turn : Turn c.args.width c.args.trace c.loop-i.t c.loop-i.h c.loop-i.i c.args.piece.now = let a = c.args in
-    let l = c.loop-i in
-    let ws = a.piece.now in
-    let g = front-record in
-    let f = table_fine true a.width a.trace (stack l.t l.h) (get_or ws l.i 0) (get_or ws (l.i + 1) 0) _ g.good in
+    let f = table_fine true a.width a.trace (stack l.stack.count l.stack.high) (get_or ws l.i 0) (get_or ws (l.i + 1) 0) _ g.good in
     let w : get_or ws l.i 0 * get_or ws (l.i + 1) 0 ≡ a.width * get_or ws (l.i + 1) 0 = ap (λ (k : ℕ). k * get_or ws (l.i + 1) 0) f.wide in
     record { two = g.two; wide = f.wide; few = f.few; room = f.room; end = omega (arith, g.two, g.fits, w) } in
     omega (arith, turn, c.requires.width_bound)
 
 pub overflow_mul-end : goal.overflow_mul-end
 overflow_mul-end c =
-    let front-record : Going table_size (table_fault true c.args.width c.args.trace) stack_next c.args.piece.now (stack c.loop-i.t c.loop-i.h) c.loop-i.i c.loop-i.invariant.left = let a = c.args in
+    let front-record : Going table_size (table_fault true c.args.width c.args.trace) stack_next c.args.piece.now (stack c.loop-i.stack.count c.loop-i.stack.high) c.loop-i.i c.loop-i.invariant.left = let a = c.args in
     let l = c.loop-i in
-    let s = stack l.t l.h in
+    let s = stack l.stack.count l.stack.high in
     let bad : table_fault true a.width a.trace s cut ≢ 0 = λ z. omega (arith, z, table-cut true a.width a.trace s) in
     going table_size (table_fault true a.width a.trace) stack_next a.piece.now s l.i l.invariant.left l.invariant.rest bad l.invariant.fine c.loop-i-test.true in
-    let turn : Turn c.args.width c.args.trace c.loop-i.t c.loop-i.h c.loop-i.i c.args.piece.now = let a = c.args in
+    let turn : Turn c.args.width c.args.trace c.loop-i.stack.count c.loop-i.stack.high c.loop-i.i c.args.piece.now = let a = c.args in
     let l = c.loop-i in
     let ws = a.piece.now in
     let g = front-record in
-    let f = table_fine true a.width a.trace (stack l.t l.h) (get_or ws l.i 0) (get_or ws (l.i + 1) 0) _ g.good in
+    let f = table_fine true a.width a.trace (stack l.stack.count l.stack.high) (get_or ws l.i 0) (get_or ws (l.i + 1) 0) _ g.good in
     let w : get_or ws l.i 0 * get_or ws (l.i + 1) 0 ≡ a.width * get_or ws (l.i + 1) 0 = ap (λ (k : ℕ). k * get_or ws (l.i + 1) 0) f.wide in
     record { two = g.two; wide = f.wide; few = f.few; room = f.room; end = omega (arith, g.two, g.fits, w) } in
     omega (arith, turn, c.requires.width_bound)
 
 pub overflow_add-end : goal.overflow_add-end
 overflow_add-end c =
-    let front-record : Going table_size (table_fault true c.args.width c.args.trace) stack_next c.args.piece.now (stack c.loop-i.t c.loop-i.h) c.loop-i.i c.loop-i.invariant.left = let a = c.args in
+    let front-record : Going table_size (table_fault true c.args.width c.args.trace) stack_next c.args.piece.now (stack c.loop-i.stack.count c.loop-i.stack.high) c.loop-i.i c.loop-i.invariant.left = let a = c.args in
     let l = c.loop-i in
-    let s = stack l.t l.h in
+    let s = stack l.stack.count l.stack.high in
     let bad : table_fault true a.width a.trace s cut ≢ 0 = λ z. omega (arith, z, table-cut true a.width a.trace s) in
     going table_size (table_fault true a.width a.trace) stack_next a.piece.now s l.i l.invariant.left l.invariant.rest bad l.invariant.fine c.loop-i-test.true in
-    let turn : Turn c.args.width c.args.trace c.loop-i.t c.loop-i.h c.loop-i.i c.args.piece.now = let a = c.args in
+    let turn : Turn c.args.width c.args.trace c.loop-i.stack.count c.loop-i.stack.high c.loop-i.i c.args.piece.now = let a = c.args in
     let l = c.loop-i in
     let ws = a.piece.now in
     let g = front-record in
-    let f = table_fine true a.width a.trace (stack l.t l.h) (get_or ws l.i 0) (get_or ws (l.i + 1) 0) _ g.good in
+    let f = table_fine true a.width a.trace (stack l.stack.count l.stack.high) (get_or ws l.i 0) (get_or ws (l.i + 1) 0) _ g.good in
     let w : get_or ws l.i 0 * get_or ws (l.i + 1) 0 ≡ a.width * get_or ws (l.i + 1) 0 = ap (λ (k : ℕ). k * get_or ws (l.i + 1) 0) f.wide in
     record { two = g.two; wide = f.wide; few = f.few; room = f.room; end = omega (arith, g.two, g.fits, w) } in
     omega (arith, turn, c.requires.width_bound)
 
-pub overflow_add-t : goal.overflow_add-t
-overflow_add-t c =
-    let front-record : Going table_size (table_fault true c.args.width c.args.trace) stack_next c.args.piece.now (stack c.loop-i.t c.loop-i.h) c.loop-i.i c.loop-i.invariant.left = let a = c.args in
+pub overflow_add-stack : goal.overflow_add-stack
+overflow_add-stack c =
+    let front-record : Going table_size (table_fault true c.args.width c.args.trace) stack_next c.args.piece.now (stack c.loop-i.stack.count c.loop-i.stack.high) c.loop-i.i c.loop-i.invariant.left = let a = c.args in
     let l = c.loop-i in
-    let s = stack l.t l.h in
+    let s = stack l.stack.count l.stack.high in
     let bad : table_fault true a.width a.trace s cut ≢ 0 = λ z. omega (arith, z, table-cut true a.width a.trace s) in
     going table_size (table_fault true a.width a.trace) stack_next a.piece.now s l.i l.invariant.left l.invariant.rest bad l.invariant.fine c.loop-i-test.true in
-    let turn : Turn c.args.width c.args.trace c.loop-i.t c.loop-i.h c.loop-i.i c.args.piece.now = let a = c.args in
+    let turn : Turn c.args.width c.args.trace c.loop-i.stack.count c.loop-i.stack.high c.loop-i.i c.args.piece.now = let a = c.args in
     let l = c.loop-i in
     let ws = a.piece.now in
     let g = front-record in
-    let f = table_fine true a.width a.trace (stack l.t l.h) (get_or ws l.i 0) (get_or ws (l.i + 1) 0) _ g.good in
-    let w : get_or ws l.i 0 * get_or ws (l.i + 1) 0 ≡ a.width * get_or ws (l.i + 1) 0 = ap (λ (k : ℕ). k * get_or ws (l.i + 1) 0) f.wide in
-    record { two = g.two; wide = f.wide; few = f.few; room = f.room; end = omega (arith, g.two, g.fits, w) } in
-    omega (arith, turn, c.requires.width_bound)
-
-pub offset_bounds-piece-start : goal.offset_bounds-piece-start
-offset_bounds-piece-start c =
-    let front-record : Going table_size (table_fault true c.args.width c.args.trace) stack_next c.args.piece.now (stack c.loop-i.t c.loop-i.h) c.loop-i.i c.loop-i.invariant.left = let a = c.args in
-    let l = c.loop-i in
-    let s = stack l.t l.h in
-    let bad : table_fault true a.width a.trace s cut ≢ 0 = λ z. omega (arith, z, table-cut true a.width a.trace s) in
-    going table_size (table_fault true a.width a.trace) stack_next a.piece.now s l.i l.invariant.left l.invariant.rest bad l.invariant.fine c.loop-i-test.true in
-    let turn : Turn c.args.width c.args.trace c.loop-i.t c.loop-i.h c.loop-i.i c.args.piece.now = let a = c.args in
-    let l = c.loop-i in
-    let ws = a.piece.now in
-    let g = front-record in
-    let f = table_fine true a.width a.trace (stack l.t l.h) (get_or ws l.i 0) (get_or ws (l.i + 1) 0) _ g.good in
-    let w : get_or ws l.i 0 * get_or ws (l.i + 1) 0 ≡ a.width * get_or ws (l.i + 1) 0 = ap (λ (k : ℕ). k * get_or ws (l.i + 1) 0) f.wide in
-    record { two = g.two; wide = f.wide; few = f.few; room = f.room; end = omega (arith, g.two, g.fits, w) } in
-    omega (arith, turn, c.requires.width_bound)
-
-pub slice_bounds-write_table-count : goal.slice_bounds-write_table-count
-slice_bounds-write_table-count c =
-    let front-record : Going table_size (table_fault true c.args.width c.args.trace) stack_next c.args.piece.now (stack c.loop-i.t c.loop-i.h) c.loop-i.i c.loop-i.invariant.left = let a = c.args in
-    let l = c.loop-i in
-    let s = stack l.t l.h in
-    let bad : table_fault true a.width a.trace s cut ≢ 0 = λ z. omega (arith, z, table-cut true a.width a.trace s) in
-    going table_size (table_fault true a.width a.trace) stack_next a.piece.now s l.i l.invariant.left l.invariant.rest bad l.invariant.fine c.loop-i-test.true in
-    let turn : Turn c.args.width c.args.trace c.loop-i.t c.loop-i.h c.loop-i.i c.args.piece.now = let a = c.args in
-    let l = c.loop-i in
-    let ws = a.piece.now in
-    let g = front-record in
-    let f = table_fine true a.width a.trace (stack l.t l.h) (get_or ws l.i 0) (get_or ws (l.i + 1) 0) _ g.good in
-    let w : get_or ws l.i 0 * get_or ws (l.i + 1) 0 ≡ a.width * get_or ws (l.i + 1) 0 = ap (λ (k : ℕ). k * get_or ws (l.i + 1) 0) f.wide in
-    record { two = g.two; wide = f.wide; few = f.few; room = f.room; end = omega (arith, g.two, g.fits, w) } in
-    omega (arith, turn, c.requires.width_bound)
-
-pub slice_bounds-write_table-start : goal.slice_bounds-write_table-start
-slice_bounds-write_table-start c =
-    let front-record : Going table_size (table_fault true c.args.width c.args.trace) stack_next c.args.piece.now (stack c.loop-i.t c.loop-i.h) c.loop-i.i c.loop-i.invariant.left = let a = c.args in
-    let l = c.loop-i in
-    let s = stack l.t l.h in
-    let bad : table_fault true a.width a.trace s cut ≢ 0 = λ z. omega (arith, z, table-cut true a.width a.trace s) in
-    going table_size (table_fault true a.width a.trace) stack_next a.piece.now s l.i l.invariant.left l.invariant.rest bad l.invariant.fine c.loop-i-test.true in
-    let turn : Turn c.args.width c.args.trace c.loop-i.t c.loop-i.h c.loop-i.i c.args.piece.now = let a = c.args in
-    let l = c.loop-i in
-    let ws = a.piece.now in
-    let g = front-record in
-    let f = table_fine true a.width a.trace (stack l.t l.h) (get_or ws l.i 0) (get_or ws (l.i + 1) 0) _ g.good in
+    let f = table_fine true a.width a.trace (stack l.stack.count l.stack.high) (get_or ws l.i 0) (get_or ws (l.i + 1) 0) _ g.good in
     let w : get_or ws l.i 0 * get_or ws (l.i + 1) 0 ≡ a.width * get_or ws (l.i + 1) 0 = ap (λ (k : ℕ). k * get_or ws (l.i + 1) 0) f.wide in
     record { two = g.two; wide = f.wide; few = f.few; room = f.room; end = omega (arith, g.two, g.fits, w) } in
     omega (arith, turn, c.requires.width_bound)
 
 pub slice_bounds-write_table-end : goal.slice_bounds-write_table-end
 slice_bounds-write_table-end c =
-    let front-record : Going table_size (table_fault true c.args.width c.args.trace) stack_next c.args.piece.now (stack c.loop-i.t c.loop-i.h) c.loop-i.i c.loop-i.invariant.left = let a = c.args in
+    let front-record : Going table_size (table_fault true c.args.width c.args.trace) stack_next c.args.piece.now (stack c.loop-i.stack.count c.loop-i.stack.high) c.loop-i.i c.loop-i.invariant.left = let a = c.args in
     let l = c.loop-i in
-    let s = stack l.t l.h in
+    let s = stack l.stack.count l.stack.high in
     let bad : table_fault true a.width a.trace s cut ≢ 0 = λ z. omega (arith, z, table-cut true a.width a.trace s) in
     going table_size (table_fault true a.width a.trace) stack_next a.piece.now s l.i l.invariant.left l.invariant.rest bad l.invariant.fine c.loop-i-test.true in
-    let turn : Turn c.args.width c.args.trace c.loop-i.t c.loop-i.h c.loop-i.i c.args.piece.now = let a = c.args in
+    let turn : Turn c.args.width c.args.trace c.loop-i.stack.count c.loop-i.stack.high c.loop-i.i c.args.piece.now = let a = c.args in
     let l = c.loop-i in
     let ws = a.piece.now in
     let g = front-record in
-    let f = table_fine true a.width a.trace (stack l.t l.h) (get_or ws l.i 0) (get_or ws (l.i + 1) 0) _ g.good in
+    let f = table_fine true a.width a.trace (stack l.stack.count l.stack.high) (get_or ws l.i 0) (get_or ws (l.i + 1) 0) _ g.good in
     let w : get_or ws l.i 0 * get_or ws (l.i + 1) 0 ≡ a.width * get_or ws (l.i + 1) 0 = ap (λ (k : ℕ). k * get_or ws (l.i + 1) 0) f.wide in
     record { two = g.two; wide = f.wide; few = f.few; room = f.room; end = omega (arith, g.two, g.fits, w) } in
     omega (arith, turn, c.requires.width_bound)
 
 pub write_table-requires : goal.write_table-requires
 write_table-requires c =
-    let front-record : Going table_size (table_fault true c.args.width c.args.trace) stack_next c.args.piece.now (stack c.loop-i.t c.loop-i.h) c.loop-i.i c.loop-i.invariant.left = let a = c.args in
+    let front-record : Going table_size (table_fault true c.args.width c.args.trace) stack_next c.args.piece.now (stack c.loop-i.stack.count c.loop-i.stack.high) c.loop-i.i c.loop-i.invariant.left = let a = c.args in
     let l = c.loop-i in
-    let s = stack l.t l.h in
+    let s = stack l.stack.count l.stack.high in
     let bad : table_fault true a.width a.trace s cut ≢ 0 = λ z. omega (arith, z, table-cut true a.width a.trace s) in
     going table_size (table_fault true a.width a.trace) stack_next a.piece.now s l.i l.invariant.left l.invariant.rest bad l.invariant.fine c.loop-i-test.true in
-    let turn : Turn c.args.width c.args.trace c.loop-i.t c.loop-i.h c.loop-i.i c.args.piece.now = let a = c.args in
+    let turn : Turn c.args.width c.args.trace c.loop-i.stack.count c.loop-i.stack.high c.loop-i.i c.args.piece.now = let a = c.args in
     let l = c.loop-i in
     let ws = a.piece.now in
     let g = front-record in
-    let f = table_fine true a.width a.trace (stack l.t l.h) (get_or ws l.i 0) (get_or ws (l.i + 1) 0) _ g.good in
+    let f = table_fine true a.width a.trace (stack l.stack.count l.stack.high) (get_or ws l.i 0) (get_or ws (l.i + 1) 0) _ g.good in
     let w : get_or ws l.i 0 * get_or ws (l.i + 1) 0 ≡ a.width * get_or ws (l.i + 1) 0 = ap (λ (k : ℕ). k * get_or ws (l.i + 1) 0) f.wide in
     record { two = g.two; wide = f.wide; few = f.few; room = f.room; end = omega (arith, g.two, g.fits, w) } in
     let a = c.args in
@@ -216,50 +120,34 @@ write_table-requires c =
     let n = part_length a.piece.now (l.i + 2) (a.width * get_or a.piece.now (l.i + 1) 0) t.end in
     record { width_bound = (c.requires.width_bound.0, c.requires.width_bound.1, t.room, n); trace_in_bounds = omega (arith, c.requires.width_bound.4, l.invariant.long) }
 
-pub overflow_add-h : goal.overflow_add-h
-overflow_add-h c =
-    let front-record : Going table_size (table_fault true c.args.width c.args.trace) stack_next c.args.piece.now (stack c.loop-i.t c.loop-i.h) c.loop-i.i c.loop-i.invariant.left = let a = c.args in
+pub overflow_add-stack-in-loop-i : goal.overflow_add-stack-in-loop-i
+overflow_add-stack-in-loop-i c =
+    let front-record : Going table_size (table_fault true c.args.width c.args.trace) stack_next c.args.piece.now (stack c.loop-i.stack.count c.loop-i.stack.high) c.loop-i.i c.loop-i.invariant.left = let a = c.args in
     let l = c.loop-i in
-    let s = stack l.t l.h in
+    let s = stack l.stack.count l.stack.high in
     let bad : table_fault true a.width a.trace s cut ≢ 0 = λ z. omega (arith, z, table-cut true a.width a.trace s) in
     going table_size (table_fault true a.width a.trace) stack_next a.piece.now s l.i l.invariant.left l.invariant.rest bad l.invariant.fine c.loop-i-test.true in
-    let turn : Turn c.args.width c.args.trace c.loop-i.t c.loop-i.h c.loop-i.i c.args.piece.now = let a = c.args in
+    let turn : Turn c.args.width c.args.trace c.loop-i.stack.count c.loop-i.stack.high c.loop-i.i c.args.piece.now = let a = c.args in
     let l = c.loop-i in
     let ws = a.piece.now in
     let g = front-record in
-    let f = table_fine true a.width a.trace (stack l.t l.h) (get_or ws l.i 0) (get_or ws (l.i + 1) 0) _ g.good in
+    let f = table_fine true a.width a.trace (stack l.stack.count l.stack.high) (get_or ws l.i 0) (get_or ws (l.i + 1) 0) _ g.good in
     let w : get_or ws l.i 0 * get_or ws (l.i + 1) 0 ≡ a.width * get_or ws (l.i + 1) 0 = ap (λ (k : ℕ). k * get_or ws (l.i + 1) 0) f.wide in
     record { two = g.two; wide = f.wide; few = f.few; room = f.room; end = omega (arith, g.two, g.fits, w) } in
     omega (arith, turn, c.requires.width_bound)
 
-pub loop-i-smaller : goal.loop-i-smaller
-loop-i-smaller c =
-    let front-record : Going table_size (table_fault true c.args.width c.args.trace) stack_next c.args.piece.now (stack c.loop-i.t c.loop-i.h) c.loop-i.i c.loop-i.invariant.left = let a = c.args in
-    let l = c.loop-i in
-    let s = stack l.t l.h in
-    let bad : table_fault true a.width a.trace s cut ≢ 0 = λ z. omega (arith, z, table-cut true a.width a.trace s) in
-    going table_size (table_fault true a.width a.trace) stack_next a.piece.now s l.i l.invariant.left l.invariant.rest bad l.invariant.fine c.loop-i-test.true in
-    let turn : Turn c.args.width c.args.trace c.loop-i.t c.loop-i.h c.loop-i.i c.args.piece.now = let a = c.args in
-    let l = c.loop-i in
-    let ws = a.piece.now in
-    let g = front-record in
-    let f = table_fine true a.width a.trace (stack l.t l.h) (get_or ws l.i 0) (get_or ws (l.i + 1) 0) _ g.good in
-    let w : get_or ws l.i 0 * get_or ws (l.i + 1) 0 ≡ a.width * get_or ws (l.i + 1) 0 = ap (λ (k : ℕ). k * get_or ws (l.i + 1) 0) f.wide in
-    record { two = g.two; wide = f.wide; few = f.few; room = f.room; end = omega (arith, g.two, g.fits, w) } in
-    omega (arith, turn)
-
 pub loop-i-preserved : goal.loop-i-preserved
 loop-i-preserved c =
-    let front-record : Going table_size (table_fault true c.args.width c.args.trace) stack_next c.args.piece.now (stack c.loop-i.t c.loop-i.h) c.loop-i.i c.loop-i.invariant.left = let a = c.args in
+    let front-record : Going table_size (table_fault true c.args.width c.args.trace) stack_next c.args.piece.now (stack c.loop-i.stack.count c.loop-i.stack.high) c.loop-i.i c.loop-i.invariant.left = let a = c.args in
     let l = c.loop-i in
-    let s = stack l.t l.h in
+    let s = stack l.stack.count l.stack.high in
     let bad : table_fault true a.width a.trace s cut ≢ 0 = λ z. omega (arith, z, table-cut true a.width a.trace s) in
     going table_size (table_fault true a.width a.trace) stack_next a.piece.now s l.i l.invariant.left l.invariant.rest bad l.invariant.fine c.loop-i-test.true in
-    let turn : Turn c.args.width c.args.trace c.loop-i.t c.loop-i.h c.loop-i.i c.args.piece.now = let a = c.args in
+    let turn : Turn c.args.width c.args.trace c.loop-i.stack.count c.loop-i.stack.high c.loop-i.i c.args.piece.now = let a = c.args in
     let l = c.loop-i in
     let ws = a.piece.now in
     let g = front-record in
-    let f = table_fine true a.width a.trace (stack l.t l.h) (get_or ws l.i 0) (get_or ws (l.i + 1) 0) _ g.good in
+    let f = table_fine true a.width a.trace (stack l.stack.count l.stack.high) (get_or ws l.i 0) (get_or ws (l.i + 1) 0) _ g.good in
     let w : get_or ws l.i 0 * get_or ws (l.i + 1) 0 ≡ a.width * get_or ws (l.i + 1) 0 = ap (λ (k : ℕ). k * get_or ws (l.i + 1) 0) f.wide in
     record { two = g.two; wide = f.wide; few = f.few; room = f.room; end = omega (arith, g.two, g.fits, w) } in
     let a = c.args in
@@ -267,14 +155,11 @@ loop-i-preserved c =
     let t = turn in
     let w = c.write_table in
     let e = part_is a.piece.now (l.i + 2) (a.width * get_or a.piece.now (l.i + 1) 0) in
-    stacking_next a.width a.trace a.count a.high a.piece.now a.tables.now l.tables l.t l.h l.i l.invariant (front-record) t.wide _ w.auto.tables (rw e at w.ensures)
-
-pub shape_of-tables : goal.shape_of-tables
-shape_of-tables c = c.loop-i.invariant.long
+    stacking_next a.width a.trace a.below.count a.below.high a.piece.now a.tables.now l.tables l.stack.count l.stack.high l.i l.invariant (front-record) t.wide _ w.auto.tables (rw e at w.ensures)
 
 pub returns : goal.returns
 returns c =
     let a = c.args in
     let l = c.loop-i in
     let done : length a.piece.now ≤ l.i = c.loop-i-test.false in
-    record { count_value = (stacking_count a.width a.trace a.count a.high a.piece.now a.tables.now l.tables l.t l.h l.i l.invariant done, stacking_high a.width a.trace a.count a.high a.piece.now a.tables.now l.tables l.t l.h l.i l.invariant done); tables_after = stacking_lines a.width a.trace a.count a.high a.piece.now a.tables.now l.tables l.t l.h l.i l.invariant done }
+    record { count_value = (stacking_count a.width a.trace a.below.count a.below.high a.piece.now a.tables.now l.tables l.stack.count l.stack.high l.i l.invariant done, stacking_high a.width a.trace a.below.count a.below.high a.piece.now a.tables.now l.tables l.stack.count l.stack.high l.i l.invariant done); tables_after = stacking_lines a.width a.trace a.below.count a.below.high a.piece.now a.tables.now l.tables l.stack.count l.stack.high l.i l.invariant done }

@@ -1,12 +1,14 @@
 -- `columns::take::stands` meets its contract: the plan's test, then the phase's, then the counts'.
-use Rattle.std.proofs.Common.{sym, ◌∙◌}
+use Rattle.std.proofs.Common.{◌≡◌, sym, ◌∙◌, false}
 use Rattle.base.specs.Pick.{pick_yes, pick_no}
 use Rattle.refusal.proofs.Passing.{passed_up}
 use Rattle.tree.specs.Plan.{parts_plan}
-use Rattle.columns.specs.Intake.{state_in, with_state}
+use Rattle.pieces.specs.Setting.{stands}
+use Rattle.columns.specs.Intake.{setting_of, state_in, with_state}
 use Rattle.columns.specs.GivenLaws.{small}
 use Rattle.columns.specs.IntakeLaws.{falls_plan, falls_phase, stands_counts}
 use Rattle.columns.proofs.Standing.{made-up}
+use Rattle.columns.proofs.take.stands.Goals.{then-counts-ne-OPEN-via-then-counts-ne-OPEN, then-counts-ne-OPEN-via-else-counts-ne-OPEN+then-not-counts_fit}
 use Rattle.columns.proofs.take.stands.Goals as goal
 
 pub returns-in_err-fault : goal.returns-in_err-fault
@@ -18,17 +20,18 @@ returns-in_err-fault c us =
 pub returns-then-counts-ne-OPEN : goal.returns-then-counts-ne-OPEN
 returns-then-counts-ne-OPEN c us =
     let a = c.args in
-    sym (pick_no _ 0 19 (falls_phase (with_state (parts_plan a.parts) (state_in a.counts us)) (sym c.in_ok-fault.ensures) c.if-counts-ne-OPEN.true))
+    let p = a.parts in
+    let q = parts_plan p in
+    let held = with_state q (state_in a.counts us) in
+    let falls : stands (setting_of q) (state_in a.counts us) ≡ false = elim c.then-counts-ne-OPEN.branch [
+      | then-counts-ne-OPEN-via-then-counts-ne-OPEN w ↦ falls_phase held (sym c.in_ok-fault.ensures) w.if-counts-ne-OPEN.true
+      | then-counts-ne-OPEN-via-else-counts-ne-OPEN+then-not-counts_fit w ↦ stands_counts held (sym c.in_ok-fault.ensures) w.if-counts-ne-OPEN.false ∙ sym (w.counts_fit.ensures p.gates.now p.nodes.now us) ∙ w.if-not-counts_fit.true
+    ] in
+    sym (pick_no _ 0 19 falls)
 
 pub counts_fit-requires : goal.counts_fit-requires
 counts_fit-requires c =
     let p = c.args.parts in small p.outline p.gates.now p.nodes.now (sym c.in_ok-fault.ensures)
-
-pub returns-then-not-counts_fit : goal.returns-then-not-counts_fit
-returns-then-not-counts_fit c us =
-    let a = c.args in
-    let p = a.parts in
-    sym (pick_no _ 0 19 (stands_counts (with_state (parts_plan p) (state_in a.counts us)) (sym c.in_ok-fault.ensures) c.if-counts-ne-OPEN.false ∙ sym (c.counts_fit.ensures p.gates.now p.nodes.now us) ∙ c.if-not-counts_fit.true))
 
 pub returns : goal.returns
 returns c us =

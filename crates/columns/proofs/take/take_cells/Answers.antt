@@ -15,6 +15,7 @@ use Rattle.pieces.specs.CellLaws.{cells_room, cells_named}
 use Rattle.columns.specs.IntakeLaws.{plan_fine, cells_19, cells_10_copies, cells_10_scratch, cells_own, cells_refused, cells_taken}
 use Rattle.columns.proofs.Standing.{standing, fallen}
 use Rattle.columns.proofs.take.take_cells.Goals as goal
+use Rattle.columns.proofs.take.take_cells.Goals.{then-copies-rooms-via-then-copies-rooms, then-copies-rooms-via-else-copies-rooms+then-scratch-rooms}
 
 product : (a n b : ℕ) → a ≤ b → n ≤ 65536 → a * n ≤ b * 65536
 product a n b h k = mul-le-mul h k
@@ -45,18 +46,11 @@ returns-then-copies-rooms c =
     let a = c.args in
     let b = cols a.copies.now a.scratch.now in
     let r = c.rooms_of-rooms.ensures a.parts.gates.now a.parts.nodes.now in
-    let k = cells_refused s a.piece.now b 10 (cells_10_copies s a.piece.now b upright (omega (arith, c.if-copies-rooms.true, r.copies_are))) (λ z. omega arith) in
-    record { value = ap given_of k.0; scratch_after = k.1 }
-
-pub returns-then-scratch-rooms : goal.returns-then-scratch-rooms
-returns-then-scratch-rooms c =
-    let held : Intake = intake_in c.args.parts.outline c.args.parts.gates.now c.args.parts.nodes.now c.args.counts.now [] in
-    let upright : stands (setting_of held.plan) (state_of held) ≡ true = standing (stands (setting_of held.plan) (state_of held)) (c.in_ok-stands.ensures []) in
-    let s = held in
-    let a = c.args in
-    let b = cols a.copies.now a.scratch.now in
-    let r = c.rooms_of-rooms.ensures a.parts.gates.now a.parts.nodes.now in
-    let k = cells_refused s a.piece.now b 10 (cells_10_scratch s a.piece.now b upright (omega (arith, c.if-copies-rooms.false, r.copies_are)) (omega (arith, c.if-scratch-rooms.true, r.scratch_is))) (λ z. omega arith) in
+    let short : cells_number (setting_of s.plan) (state_of s) a.piece.now b ≡ 10 = elim c.then-copies-rooms.branch [
+      | then-copies-rooms-via-then-copies-rooms w ↦ cells_10_copies s a.piece.now b upright (omega (arith, w.if-copies-rooms.true, r.copies_are))
+      | then-copies-rooms-via-else-copies-rooms+then-scratch-rooms w ↦ cells_10_scratch s a.piece.now b upright (omega (arith, w.if-copies-rooms.false, r.copies_are)) (omega (arith, w.if-scratch-rooms.true, r.scratch_is))
+    ] in
+    let k = cells_refused s a.piece.now b 10 short (λ z. omega arith) in
     record { value = ap given_of k.0; scratch_after = k.1 }
 
 pub overflow_mul-total : goal.overflow_mul-total

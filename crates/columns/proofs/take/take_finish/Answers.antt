@@ -5,7 +5,7 @@ use Rattle.refusal.proofs.Passing.{passed_up, refusal_nonzero}
 use Rattle.tree.specs.Plan.{plan_fault}
 use Rattle.tree.specs.SoundLaws.{Sound, sound}
 use Rattle.pieces.specs.Setting.{cols, stands}
-use Rattle.pieces.specs.Finishing.{complete}
+use Rattle.pieces.specs.Finishing.{complete, finish_number}
 use Rattle.columns.specs.Intake.{setting_of, state_of}
 use Rattle.columns.specs.Given.{given_with, given_of, intake_in}
 use Rattle.columns.specs.GivenLaws.{small}
@@ -13,6 +13,7 @@ use Rattle.columns.specs.declared.intake.Intake.{Intake}
 use Rattle.columns.specs.IntakeLaws.{plan_fine, finish_19, finish_10_copies, finish_10_scratch, finish_16, finish_17, finish_18, finish_0, finish_refused, finish_taken}
 use Rattle.columns.proofs.Standing.{standing, fallen}
 use Rattle.columns.proofs.take.take_finish.Goals as goal
+use Rattle.columns.proofs.take.take_finish.Goals.{then-copies-rooms-via-then-copies-rooms, then-copies-rooms-via-else-copies-rooms+then-scratch-rooms}
 
 product : (a n b : ℕ) → a ≤ b → n ≤ 65536 → a * n ≤ b * 65536
 product a n b h k = mul-le-mul h k
@@ -42,18 +43,11 @@ returns-then-copies-rooms c =
     let a = c.args in
     let b = cols a.copies.now a.scratch.now in
     let r = c.rooms_of-rooms.ensures a.parts.gates.now a.parts.nodes.now in
-    let k = finish_refused s b 10 (finish_10_copies s b upright (omega (arith, c.if-copies-rooms.true, r.copies_are))) (λ z. omega arith) in
-    record { value = ap given_of k.0; copies_after = k.1 }
-
-pub returns-then-scratch-rooms : goal.returns-then-scratch-rooms
-returns-then-scratch-rooms c =
-    let held : Intake = intake_in c.args.parts.outline c.args.parts.gates.now c.args.parts.nodes.now c.args.counts.now c.args.used.now in
-    let upright : stands (setting_of held.plan) (state_of held) ≡ true = standing (stands (setting_of held.plan) (state_of held)) (c.in_ok-stands.ensures c.args.used.now) in
-    let s = held in
-    let a = c.args in
-    let b = cols a.copies.now a.scratch.now in
-    let r = c.rooms_of-rooms.ensures a.parts.gates.now a.parts.nodes.now in
-    let k = finish_refused s b 10 (finish_10_scratch s b upright (omega (arith, c.if-copies-rooms.false, r.copies_are)) (omega (arith, c.if-scratch-rooms.true, r.scratch_is))) (λ z. omega arith) in
+    let short : finish_number (setting_of s.plan) (state_of s) b ≡ 10 = elim c.then-copies-rooms.branch [
+      | then-copies-rooms-via-then-copies-rooms w ↦ finish_10_copies s b upright (omega (arith, w.if-copies-rooms.true, r.copies_are))
+      | then-copies-rooms-via-else-copies-rooms+then-scratch-rooms w ↦ finish_10_scratch s b upright (omega (arith, w.if-copies-rooms.false, r.copies_are)) (omega (arith, w.if-scratch-rooms.true, r.scratch_is))
+    ] in
+    let k = finish_refused s b 10 short (λ z. omega arith) in
     record { value = ap given_of k.0; copies_after = k.1 }
 
 pub complete-requires : goal.complete-requires

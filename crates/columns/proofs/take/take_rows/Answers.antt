@@ -1,6 +1,6 @@
 -- `columns::take::take_rows` meets its contract: 19, 10, the first faulty record, then the rows written and their gates marked. The plan's test is that of its
 -- gates' answer.
-use Rattle.std.proofs.Common.{true, ℕ, ◌≡◌, ◌∙◌, ap, sym, arith, ◌+◌, ◌*◌, ◌≤◌, length}
+use Rattle.std.proofs.Common.{true, false, ℕ, ◌≡◌, ◌∙◌, ap, sym, arith, ◌+◌, ◌*◌, ◌≤◌, length}
 use Rattle.refusal.specs.Refusal.{refusal_number}
 use Rattle.refusal.proofs.Passing.{passed_up, refusal_nonzero}
 use Rattle.tree.specs.Plan.{plan_fault, plan_path}
@@ -15,6 +15,7 @@ use Rattle.columns.specs.GivenLaws.{small}
 use Rattle.columns.specs.IntakeLaws.{falls_plan, falls_phase, stands_counts, rows_19, rows_10, rows_own, rows_refused, rows_taken}
 use Rattle.columns.specs.declared.intake.Intake.{Intake}
 use Rattle.columns.proofs.RowLoop.{GatesOf, gates-of, gates-sound, gates_refused, gates_fault}
+use Rattle.columns.proofs.take.take_rows.Goals.{then-counts-ne-OPEN-via-then-counts-ne-OPEN, then-counts-ne-OPEN-via-else-counts-ne-OPEN+then-not-counts_fit}
 use Rattle.columns.proofs.take.take_rows.Goals as goal
 
 pub returns-in_err-gates : goal.returns-in_err-gates
@@ -30,10 +31,12 @@ pub returns-then-counts-ne-OPEN : goal.returns-then-counts-ne-OPEN
 returns-then-counts-ne-OPEN c =
     let held : Intake = intake_in c.args.parts.outline c.args.parts.gates.now c.args.parts.nodes.now c.args.counts.now c.args.used.now in
     let no_fault : plan_fault held.plan ≡ 0 = gates-sound held.plan c.in_ok-gates.ensures.number in
-    let s = held in
     let a = c.args in
-    let d = falls_phase s no_fault c.if-counts-ne-OPEN.true in
-    let k = rows_refused s a.piece.now a.constants.now 19 (rows_19 s a.piece.now a.constants.now d) (λ z. omega arith) in
+    let falls : stands (setting_of held.plan) (state_of held) ≡ false = elim c.then-counts-ne-OPEN.branch [
+      | then-counts-ne-OPEN-via-then-counts-ne-OPEN w ↦ falls_phase held no_fault w.if-counts-ne-OPEN.true
+      | then-counts-ne-OPEN-via-else-counts-ne-OPEN+then-not-counts_fit w ↦ stands_counts held no_fault w.if-counts-ne-OPEN.false ∙ sym (w.counts_fit.ensures a.parts.gates.now a.parts.nodes.now a.used.now) ∙ w.if-not-counts_fit.true
+    ] in
+    let k = rows_refused held a.piece.now a.constants.now 19 (rows_19 held a.piece.now a.constants.now falls) (λ z. omega arith) in
     record { value = ap marked_of k.0; constants_after = k.1 }
 
 pub counts_fit-requires : goal.counts_fit-requires
@@ -41,16 +44,6 @@ counts_fit-requires c =
     let held : Intake = intake_in c.args.parts.outline c.args.parts.gates.now c.args.parts.nodes.now c.args.counts.now c.args.used.now in
     let no_fault : plan_fault held.plan ≡ 0 = gates-sound held.plan c.in_ok-gates.ensures.number in
     let a = c.args in small a.parts.outline a.parts.gates.now a.parts.nodes.now no_fault
-
-pub returns-then-not-counts_fit : goal.returns-then-not-counts_fit
-returns-then-not-counts_fit c =
-    let held : Intake = intake_in c.args.parts.outline c.args.parts.gates.now c.args.parts.nodes.now c.args.counts.now c.args.used.now in
-    let no_fault : plan_fault held.plan ≡ 0 = gates-sound held.plan c.in_ok-gates.ensures.number in
-    let s = held in
-    let a = c.args in
-    let d = stands_counts s no_fault c.if-counts-ne-OPEN.false ∙ sym (c.counts_fit.ensures a.parts.gates.now a.parts.nodes.now a.used.now) ∙ c.if-not-counts_fit.true in
-    let k = rows_refused s a.piece.now a.constants.now 19 (rows_19 s a.piece.now a.constants.now d) (λ z. omega arith) in
-    record { value = ap marked_of k.0; constants_after = k.1 }
 
 pub rooms_of-requires : goal.rooms_of-requires
 rooms_of-requires c =
