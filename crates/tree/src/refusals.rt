@@ -35,6 +35,7 @@ fn check_record(kind: u64, degree: u64, constants: u64) -> Result<(), Refusal>
 }
 
 // "4 first bad record".
+#[tactic(auto, using(crate::proofs::RefusalsLaws::records_left))]
 fn check_records(gates: &[u64], many: usize) -> Result<(), Refusal>
     requires { many * gate_words ≤ length gates.now }
     ensures { answer_number result ≡ records_number many gates.now 0 }
@@ -47,6 +48,7 @@ fn check_records(gates: &[u64], many: usize) -> Result<(), Refusal>
 }
 
 // Whether one of the gates from `from` on has this kind.
+#[tactic(auto, using(crate::proofs::RefusalsLaws::kinds_left))]
 fn some_kind(gates: &[u64], many: usize, kind: u64, from: usize) -> bool
     requires { (many * gate_words ≤ length gates.now) × (from ≤ many) }
     ensures { result ≡ some_kind kind (many - from) gates.now from }

@@ -12,7 +12,7 @@ pub returns-then-base-ge-MOST_GATES : goal.returns-then-base-ge-MOST_GATES
 returns-then-base-ge-MOST_GATES c =
     let a = c.args in
     let p = c.requires in
-    record { stands = stands a.extra a.target a.bound a.gates.now a.many a.base a.order.now a.nodes.now p.gate_words_in_bounds.0 p.gate_words_in_bounds.1 p.gate_words_in_bounds.2 p.gate_words_in_bounds.3 p.listed p.distinct _ _ (grow_none (may_stand a.extra a.gates.now a.target a.bound) a.gates.now a.many a.base p.gate_words_in_bounds.0 a.order.now p.gate_words_in_bounds.2 p.listed a.nodes.now a.nodes.now c.if-base-ge-MOST_GATES.true); nodes_len = p.gate_words_in_bounds.3 }
+    record { stands = stands a.extra a.target a.bound a.gates.now a.many a.base a.order.now a.nodes.now p.gate_words_in_bounds.0 p.gate_words_in_bounds.1 p.gate_words_in_bounds.2 p.gate_words_in_bounds.3 p.listed p.distinct _ _ (grow_none (may_stand a.extra a.gates.now a.target a.bound) a.gates.now a.many a.base p.gate_words_in_bounds.0 a.order.now p.gate_words_in_bounds.2 p.listed a.nodes.now a.nodes.now c.if-base-ge-MOST_GATES.true); some = tt; nodes_len = p.gate_words_in_bounds.3 }
 
 pub may_stand-requires : goal.may_stand-requires
 may_stand-requires c =
@@ -41,8 +41,9 @@ returns-then-taken-count c =
     let kept = e.nodes_after ∙ ap (λ (z : Placed). z.nodes) (refused (may_stand a.extra a.gates.now a.target a.bound) (get_or a.order.now l.i 0) l.nodes l.count most_levels 0 0 n) in
     rw kept record {
       stands = stands a.extra a.target a.bound a.gates.now a.many a.base a.order.now a.nodes.now p.gate_words_in_bounds.0 p.gate_words_in_bounds.1 p.gate_words_in_bounds.2 p.gate_words_in_bounds.3 p.listed p.distinct _ _
-          (grow_fits (may_stand a.extra a.gates.now a.target a.bound) a.gates.now a.many a.base p.gate_words_in_bounds.0 a.order.now p.gate_words_in_bounds.2 p.listed _ a.nodes.now c.if-base-ge-MOST_GATES.false c.put_node.ensures (sym c.may_stand.ensures ∙ c.if-may_stand.true)
+          (grow_fits (may_stand a.extra a.gates.now a.target a.bound) a.gates.now a.many a.base p.gate_words_in_bounds.0 a.order.now p.gate_words_in_bounds.2 p.listed _ a.nodes.now c.if-base-ge-MOST_GATES.false c.put_node.ensures (sym c.may_stand.ensures ∙ c.if-not-may_stand.false)
           ∙ grow_stop (may_stand a.extra a.gates.now a.target a.bound) a.gates.now a.many a.base p.gate_words_in_bounds.0 a.order.now p.gate_words_in_bounds.2 p.listed _ l.nodes l.count l.i l.invariant c.loop-i-test.true n);
+      some = tt;
       nodes_len = l.invariant.long;
     }
 
@@ -54,22 +55,24 @@ loop-i-preserved c =
     let e = c.try_add_gate-taken.ensures in
     rw (e.value, e.nodes_after) (grow_next (may_stand a.extra a.gates.now a.target a.bound) a.gates.now a.many a.base p.gate_words_in_bounds.0 a.order.now p.gate_words_in_bounds.2 p.listed _ l.nodes l.count l.i l.invariant c.loop-i-test.true (λ z. c.if-taken-count.false (e.value ∙ z)))
 
-pub returns-then-may_stand : goal.returns-then-may_stand
-returns-then-may_stand c =
+pub returns : goal.returns
+returns c =
     let l = c.loop-i in
     let a = c.args in
     let p = c.requires in record {
       stands = stands a.extra a.target a.bound a.gates.now a.many a.base a.order.now a.nodes.now p.gate_words_in_bounds.0 p.gate_words_in_bounds.1 p.gate_words_in_bounds.2 p.gate_words_in_bounds.3 p.listed p.distinct _ _
-          (grow_fits (may_stand a.extra a.gates.now a.target a.bound) a.gates.now a.many a.base p.gate_words_in_bounds.0 a.order.now p.gate_words_in_bounds.2 p.listed _ a.nodes.now c.if-base-ge-MOST_GATES.false c.put_node.ensures (sym c.may_stand.ensures ∙ c.if-may_stand.true)
+          (grow_fits (may_stand a.extra a.gates.now a.target a.bound) a.gates.now a.many a.base p.gate_words_in_bounds.0 a.order.now p.gate_words_in_bounds.2 p.listed _ a.nodes.now c.if-base-ge-MOST_GATES.false c.put_node.ensures (sym c.may_stand.ensures ∙ c.if-not-may_stand.false)
           ∙ grow_end (may_stand a.extra a.gates.now a.target a.bound) a.gates.now a.many a.base p.gate_words_in_bounds.0 a.order.now p.gate_words_in_bounds.2 p.listed _ l.nodes l.count l.i l.invariant c.loop-i-test.false);
+      some = omega (arith, l.invariant.twice, l.invariant.some);
       nodes_len = l.invariant.long;
     }
 
-pub returns : goal.returns
-returns c =
+pub returns-then-not-may_stand : goal.returns-then-not-may_stand
+returns-then-not-may_stand c =
     let a = c.args in
     let p = c.requires in record {
       stands = stands a.extra a.target a.bound a.gates.now a.many a.base a.order.now a.nodes.now p.gate_words_in_bounds.0 p.gate_words_in_bounds.1 p.gate_words_in_bounds.2 p.gate_words_in_bounds.3 p.listed p.distinct _ _
-          (grow_not (may_stand a.extra a.gates.now a.target a.bound) a.gates.now a.many a.base p.gate_words_in_bounds.0 a.order.now p.gate_words_in_bounds.2 p.listed a.nodes.now a.nodes.now c.if-base-ge-MOST_GATES.false (sym c.may_stand.ensures ∙ c.if-may_stand.false));
+          (grow_not (may_stand a.extra a.gates.now a.target a.bound) a.gates.now a.many a.base p.gate_words_in_bounds.0 a.order.now p.gate_words_in_bounds.2 p.listed a.nodes.now a.nodes.now c.if-base-ge-MOST_GATES.false (sym c.may_stand.ensures ∙ c.if-not-may_stand.true));
+      some = tt;
       nodes_len = p.gate_words_in_bounds.3;
     }
