@@ -140,10 +140,6 @@ pub found : (m : ℕ) (q : Option Tree) (ns : List ℕ) (n : ℕ) → Stands m q
 found m none ns n h z = absurd (z h)
 found m (some t) ns n h z = record { tree = t; is = refl; stood = h; whole = holds_more ns n most_nodes 0 t h.small h.holds; shallow = omega (arith, h.deep) }
 
-pub not_found : (m : ℕ) (q : Option Tree) (ns : List ℕ) (n : ℕ) → Stands m q ns n → n ≡ 0 → q ≡ none
-not_found m none ns n h z = refl
-not_found m (some t) ns n h z = absurd (omega (arith, h.some))
-
 pub found_room : (m : ℕ) (q : Option Tree) (ns : List ℕ) (n : ℕ) → Found m q ns n → Room m ns 0 (most_levels + 1) 0
 found_room m q ns n w =
     let s = w.stood in

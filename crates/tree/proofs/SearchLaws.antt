@@ -21,8 +21,8 @@ use Rattle.selector.specs.Flat.{Fine, Placed, Stands, Stood, grow_flat, grow_fro
 use Rattle.selector.specs.FlatLaws.{Spot, fine_split, length-split, spot}
 use Rattle.selector.specs.Inner.{Distinct, Listed}
 use Rattle.selector.specs.Gates.{gate_words, placed_gates, sorted, top_constants, top_degree}
-use Rattle.selector.specs.NodeLaws.{length-put, put_gate, put-left, put_right}
-use Rattle.selector.specs.Nodes.{gate_at, left_at, most_levels, node_size, node_slots, put, right_at}
+use Rattle.selector.specs.NodeLaws.{put_gate, put-left}
+use Rattle.selector.specs.Nodes.{most_levels, node_size, node_slots, put}
 use Rattle.selector.proofs.RunLaws.{flat_grows}
 use Rattle.selector.specs.Search.{extra_levels, factor_of, first_bound, first_target, may_stand, or_tree, plan_tree, search_tree, targets, tree_within}
 use Rattle.selector.proofs.SearchLaws.{nothing_deeper}
@@ -98,31 +98,6 @@ module _ (fit : ℕ → ℕ → Bool) (gs : List ℕ) where
         → Growing fit gs m base o ns₀ (offer_node most_levels fit (get_or o i 0) 0 0 ns n).nodes (offer_node most_levels fit (get_or o i 0) 0 0 ns n).count (i + 1)
     grow_next ns n i w h more =
         grow_by ns n i w h (offer_node most_levels fit (get_or o i 0) 0 0 ns n) refl more (spot fit (get_or o i 0) gs ns n most_levels 0 0 (w.ready h))
-
-    pub grow_begin : (ns : List ℕ) → base < most_gates → length ns ≡ node_slots → ns₀ ≡ put ns 0 0 0 (get_or o base 0) → Growing fit gs m base o ns₀ ns₀ 1 (base + 1)
-    grow_begin ns h l e =
-        let g = get_or o base 0 in
-        let long : length ns₀ ≡ node_slots = ap length e ∙ length-put ns 0 0 0 g ∙ l in
-        let left : left_at ns₀ 0 ≡ 0 = ap (λ (z : List ℕ). left_at z 0) e ∙ put-left ns 0 0 0 g (omega arith) in
-        let right : right_at ns₀ 0 ≡ 0 = ap (λ (z : List ℕ). right_at z 0) e ∙ put_right ns 0 0 0 g (omega arith) in
-        let gate : gate_at ns₀ 0 ≡ g = ap (λ (z : List ℕ). gate_at z 0) e ∙ put_gate ns 0 0 0 g (omega arith) in
-        let low = listed_at m o base base listed (omega arith) (omega arith) in
-        record {
-          some = omega arith;
-          upto = omega arith;
-          twice = omega arith;
-          long = long;
-          ready = λ y.
-              record {
-                room = omega arith;
-                here = omega arith;
-                listed = omega (arith, listed_at m o base (base + 1) listed (omega arith) (omega arith));
-                lefts = λ k z. let q : k ≡ 0 = omega arith in rw (q, left) (omega arith);
-                rights = λ k z. let q : k ≡ 0 = omega arith in rw (q, right) (omega arith);
-                gates = λ k z. let q : k ≡ 0 = omega arith in rw (q, gate) (omega (arith, low));
-              };
-          same = refl;
-        }
 
     pub grow_fits : (ns : List ℕ) → base < most_gates → ns₀ ≡ put ns 0 0 0 (get_or o base 0) → fit (get_or o base 0) 0 ≡ true
         → grow_flat fit (drop base o) ns ≡ grow_from fit (drop (base + 1) o) ns₀ 1

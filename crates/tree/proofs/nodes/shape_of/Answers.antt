@@ -1,15 +1,8 @@
 -- `nodes::shape_of` meets its contract: where the search leaves a tree, the pass lays it out and takes its stats.
-use Rattle.std.proofs.Common.{◌∙◌, ap, refl, sym, arith}
+use Rattle.std.proofs.Common.{arith}
 use Rattle.selector.specs.Search.{plan_tree}
-use Rattle.tree.proofs.NodesLaws.{found, found_room, laid_shape, laid-small, laid-some, not_found}
-use Rattle.tree.specs.Shapes.{shape_of, shape_or_zeros}
+use Rattle.tree.proofs.NodesLaws.{found, found_room, laid_shape, laid-small, laid-some}
 use Rattle.tree.proofs.nodes.shape_of.Goals as goal
-
-pub returns-in_err-compute_placement-clause-shape : goal.returns-in_err-compute_placement-clause-shape
-returns-in_err-compute_placement-clause-shape c =
-    let a = c.args in
-    let q = plan_tree a.extra a.gates.now a.many in
-    ap shape_or_zeros c.from_residual.ensures ∙ sym (ap (shape_of a.extra a.gates.now) (not_found a.many q _ _ c.in_err-compute_placement.ensures.stands refl))
 
 pub lay-done-requires : goal.lay-done-requires
 lay-done-requires c =

@@ -5,7 +5,7 @@ use Rattle.selector.specs.Nodes.{most_levels}
 use Rattle.selector.specs.Flat.{Placed}
 use Rattle.selector.specs.FlatLaws.{refused}
 use Rattle.selector.specs.Search.{may_stand}
-use Rattle.tree.proofs.SearchLaws.{grow_begin, grow_end, grow_fits, grow_next, grow_none, grow_not, grow_stop, listed_at, stands}
+use Rattle.tree.proofs.SearchLaws.{grow_end, grow_fits, grow_next, grow_none, grow_not, grow_stop, stands}
 use Rattle.tree.proofs.search.place_all.Goals as goal
 
 pub returns-then-base-ge-MOST_GATES : goal.returns-then-base-ge-MOST_GATES
@@ -13,23 +13,6 @@ returns-then-base-ge-MOST_GATES c =
     let a = c.args in
     let p = c.requires in
     record { stands = stands a.extra a.target a.bound a.gates.now a.many a.base a.order.now a.nodes.now p.gate_words_in_bounds.0 p.gate_words_in_bounds.1 p.gate_words_in_bounds.2 p.gate_words_in_bounds.3 p.listed p.distinct _ _ (grow_none (may_stand a.extra a.gates.now a.target a.bound) a.gates.now a.many a.base p.gate_words_in_bounds.0 a.order.now p.gate_words_in_bounds.2 p.listed a.nodes.now a.nodes.now c.if-base-ge-MOST_GATES.true); some = tt; nodes_len = p.gate_words_in_bounds.3 }
-
-pub may_stand-requires : goal.may_stand-requires
-may_stand-requires c =
-    let a = c.args in
-    let p = c.requires in
-    omega (arith, listed_at a.many a.order.now a.base a.base p.listed (omega arith) (omega (arith, p.gate_words_in_bounds.2, c.if-base-ge-MOST_GATES.false)), p.gate_words_in_bounds.0)
-
-pub loop-i-init : goal.loop-i-init
-loop-i-init c =
-    let a = c.args in
-    let p = c.requires in
-    grow_begin (may_stand a.extra a.gates.now a.target a.bound) a.gates.now a.many a.base p.gate_words_in_bounds.0 a.order.now p.gate_words_in_bounds.2 p.listed _ a.nodes.now c.if-base-ge-MOST_GATES.false p.gate_words_in_bounds.3 c.put_node.ensures
-
-pub try_add_gate-taken-requires : goal.try_add_gate-taken-requires
-try_add_gate-taken-requires c =
-    let l = c.loop-i in
-    record { fine = l.invariant.ready c.loop-i-test.true; levels_bound = omega arith }
 
 pub returns-then-taken-count : goal.returns-then-taken-count
 returns-then-taken-count c =

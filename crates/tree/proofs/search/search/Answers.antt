@@ -7,9 +7,6 @@ use Rattle.selector.specs.Search.{factor_of, targets}
 use Rattle.tree.proofs.SearchLaws.{bounds_are, cap-next, order_distinct, order_listed, search_begin, target_lost, target_none, target_won, within}
 use Rattle.tree.proofs.search.search.Goals as goal
 
-pub arrange-ranged-requires : goal.arrange-ranged-requires
-arrange-ranged-requires c = record { sound = c.requires.sound; order_len = refl }
-
 pub factor_of-target-requires : goal.factor_of-target-requires
 factor_of-target-requires c =
     let a = c.args in

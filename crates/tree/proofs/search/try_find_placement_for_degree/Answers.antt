@@ -4,18 +4,6 @@ use Rattle.tree.proofs.SearchLaws.{bound-lost, bound-none, bound_won}
 use Rattle.tree.proofs.search.try_find_placement_for_degree.Invariants.{each}
 use Rattle.tree.proofs.search.try_find_placement_for_degree.Goals as goal
 
-pub loop-b-init : goal.loop-b-init
-loop-b-init c =
-    let a = c.args in
-    let e : a.bound + a.left - a.bound ≡ a.left = omega arith in
-    (c.requires.gate_words_in_bounds.3, rw e refl)
-
-pub place_all-requires : goal.place_all-requires
-place_all-requires c =
-    let l = c.loop-b in
-    let p = c.requires in
-    record { gate_words_in_bounds = (p.gate_words_in_bounds.0, omega (arith, c.loop-b-test.true, p.gate_words_in_bounds.1), p.gate_words_in_bounds.2, l.invariant.0); listed = p.listed; distinct = p.distinct }
-
 pub returns-in-Some : goal.returns-in-Some
 returns-in-Some c =
     let l = c.loop-b in
