@@ -109,6 +109,7 @@ fn top_constants(gates: &[u64], many: usize, extra: u64) -> u64
     ensures { result ≡ top_constants extra gates.now (placed_gates gates.now many) }
 {
     let mut constants = 0;
+    // counts down, as the gates are arranged
     for g in (0..many).rev() {
         if gates[g * GATE_WORDS] != 2 {
             constants = constants_of(gates, g as u64, extra).max(constants);
