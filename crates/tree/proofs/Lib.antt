@@ -6,4 +6,5 @@ mod NodesLaws
 mod PathsLaws
 mod RefusalsLaws
 mod PlanCodeLaws
+mod MadeUpLaws
 pub mod RowsLaws

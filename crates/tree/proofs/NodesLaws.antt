@@ -11,6 +11,7 @@ use native.Mathlib.Omega.{arith}
 use Rattle.selector.specs.Flat.{Stands, Stood}
 use Rattle.selector.specs.Gates.{constants_of, degree_at}
 use Rattle.selector.specs.Leaves.{In}
+use Rattle.selector.specs.NodeLaws.{size-some as sized-some}
 use Rattle.selector.specs.Nodes.{gate_at, laid, left_at, most_levels, most_nodes, node_slots, put, right_at}
 use Rattle.selector.proofs.RecordLaws.{degree_small}
 use Rattle.selector.specs.Search.{constants_over, degree_over, factor_of, tree_d, tree_k}
@@ -139,10 +140,6 @@ pub found : (m : ℕ) (q : Option Tree) (ns : List ℕ) (n : ℕ) → Stands m q
 found m none ns n h z = absurd (z h)
 found m (some t) ns n h z = record { tree = t; is = refl; stood = h; whole = holds_more ns n most_nodes 0 t h.small h.holds; shallow = omega (arith, h.deep) }
 
-pub not_found : (m : ℕ) (q : Option Tree) (ns : List ℕ) (n : ℕ) → Stands m q ns n → n ≡ 0 → q ≡ none
-not_found m none ns n h z = refl
-not_found m (some t) ns n h z = absurd (omega (arith, h.some))
-
 pub found_room : (m : ℕ) (q : Option Tree) (ns : List ℕ) (n : ℕ) → Found m q ns n → Room m ns 0 (most_levels + 1) 0
 found_room m q ns n w =
     let s = w.stood in
@@ -157,6 +154,11 @@ module _ (x : ℕ) (gs : List ℕ) (m : ℕ) (q : Option Tree) (ns : List ℕ) (
   laid-small s =
       let d = degree_over-small gs m x s w.tree 0 w.stood.listed in
       omega (arith, laid_degree, w.shallow, d)
+
+  pub laid-some : 0 < r.next
+  laid-some =
+      let a : r.next ≡ size w.tree = ap (λ (z : Stats). z.next) done.sums ∙ omega arith in
+      omega (arith, a, sized-some w.tree)
 
   pub laid_shape : (f : ℕ) → f ≡ factor_of r.degree
       → ◌≡◌ {A = Shape} (record { nodes = out; count = r.next; degree = r.degree; constants = r.constants; factor = f }) (shape_of x gs q)

@@ -12,12 +12,12 @@ use mathlib.Core.Logic.{◌≢◌}
 use mathlib.Core.Option.{Option, none, some}
 use mathlib.Core.Path.{◌∙◌, ◌≡◌, refl, subst, sym}
 use native.Mathlib.Decide.{ℕ_discrete}
-use native.Mathlib.Nat.{one-le-pow, pow-le-pow_right}
+use native.Mathlib.Nat.{one-le-pow}
 use native.Mathlib.Numerals.{add-one}
 use native.Mathlib.Omega.{arith}
 use Rattle.base.specs.Pick.{pick}
 use Rattle.selector.specs.NodeLaws.{at_fork, at_leaf}
-use Rattle.selector.specs.Nodes.{both_sides, gate_at, left_at, most_levels, right_at, tree_at}
+use Rattle.selector.specs.Nodes.{both_sides, gate_at, left_at, right_at, tree_at}
 use Rattle.selector.specs.Paths.{bits_of, path_to, turned}
 use Rattle.base.specs.Limits.{most_gates}
 use Rattle.selector.specs.Tree.{Tree, fork, leaf}
@@ -26,18 +26,12 @@ use Rattle.tree.specs.declared.paths.Path.{Path}
 use Rattle.std.specs.Prelude.{Some, None}
 use borrow.Fn.PlainCycle.{is}
 
-pub pow_room : (f : ℕ) → f ≤ most_levels → 2 ^ f ≤ 2 ^ most_levels
-pow_room f h = pow-le-pow_right {n = 2} (omega arith) h
-
 pub pow-some : (f : ℕ) → 0 < 2 ^ f
 pow-some f = one-le-pow f 2 (omega arith)
 
 pub pow_step : (f : ℕ) → 0 < f → 2 ^ f ≡ 2 ^ (f - 1) * 2
 pow_step zero h = absurd (omega arith)
 pow_step (suc f) h = let e : suc f - 1 ≡ f = omega arith in rw e (omega arith)
-
-pub pow-next : (w d : ℕ) → w ≡ 2 ^ d → w * 2 ≡ 2 ^ (d + 1)
-pow-next w d e = rw add-one (omega arith)
 
 leaf_spelled : (b : Bool) → pick b (Some (record { bits = 0; length = 0 })) None ≡ spelled (pick b (some []) none)
 unfolding bits_of

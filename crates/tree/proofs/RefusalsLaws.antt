@@ -57,5 +57,7 @@ module _ (x : ℕ) (gs : List ℕ) (m : ℕ) where
   unfolding greatest
   top_more g c h s e q = rw (placed_gain gs m g h s e, q)
 
-pub kind_all : (kind m : ℕ) (gs : List ℕ) → some_kind kind (m - 0) gs 0 ≡ some_kind kind m gs 0
-kind_all kind m gs = let q : m - 0 ≡ m = omega arith in rw q
+-- what the loops of the records and of the kinds rest on
+pub ruleset records_left = (records-next, records_bad, records_done)
+
+pub ruleset kinds_left = (kind_next, kind_found, kind_done)

@@ -1,10 +1,10 @@
--- The code of `search`: which gate may stand, and what holds at the tests of its loops.
+-- The code of `search`: what holds at the tests of its loops.
 --
 -- Main definition: `Growing` (the offers so far are those of the definition's run).
--- Main statements: `stand_plain` and the like, `grow_next`, `bound_won`, `bound-lost`, `target_won`, `target_lost`.
-use Prim.Native.Nat.{◌*◌, ◌+◌, ◌-◌, ◌<◌, ◌≤◌, max, suc, zero, ℕ}
-use borrow.Author.Tests.{eq-eqb, le-leb, lt-leb, ne_eqb}
-use lib.Dec.{eqb, leb}
+-- Main statements: `grow_next`, `bound_won`, `bound-lost`, `target_won`, `target_lost`.
+use Prim.Native.Nat.{◌*◌, ◌+◌, ◌-◌, ◌<◌, ◌≤◌, suc, zero, ℕ}
+use borrow.Author.Tests.{eq-eqb, ne_eqb}
+use lib.Dec.{eqb}
 use lib.ListN.{drop, drop_of_length-le, get_or, length, length-drop}
 use lib.Seq.{drop-cons, get_or-drop}
 use mathlib.Core.Bool.{Bool, false, true}
@@ -12,7 +12,6 @@ use mathlib.Core.List.{List, [], ◌∷◌}
 use mathlib.Core.Logic.{inl, inr}
 use mathlib.Core.Option.{Option, none, some}
 use mathlib.Core.Path.{◌∙◌, ◌≡◌, ap, refl, sym}
-use native.Mathlib.Decide.{dec_le}
 use native.Mathlib.Numerals.{add-one}
 use native.Mathlib.Omega.{arith}
 use Rattle.base.specs.Limits.{most_gates}
@@ -21,55 +20,14 @@ use Rattle.base.specs.Pick.{pick}
 use Rattle.selector.specs.Flat.{Fine, Placed, Stands, Stood, grow_flat, grow_from, offer_node, placed, split_flat}
 use Rattle.selector.specs.FlatLaws.{Spot, fine_split, length-split, spot}
 use Rattle.selector.specs.Inner.{Distinct, Listed}
-use Rattle.selector.specs.Gates.{constants_of, degree_at, degree_of, gate_words, kind_of, placed_gates, sorted, top_constants, top_degree}
-use Rattle.selector.specs.NodeLaws.{length-put, put_gate, put-left, put_right}
-use Rattle.selector.specs.Nodes.{gate_at, left_at, most_levels, node_size, node_slots, put, right_at}
+use Rattle.selector.specs.Gates.{gate_words, placed_gates, sorted, top_constants, top_degree}
+use Rattle.selector.specs.NodeLaws.{put_gate, put-left}
+use Rattle.selector.specs.Nodes.{most_levels, node_size, node_slots, put}
 use Rattle.selector.proofs.RunLaws.{flat_grows}
 use Rattle.selector.specs.Search.{extra_levels, factor_of, first_bound, first_target, may_stand, or_tree, plan_tree, search_tree, targets, tree_within}
 use Rattle.selector.proofs.SearchLaws.{nothing_deeper}
 use Rattle.selector.specs.SortLaws.{distinct_placed, distinct_sorted, listed_placed, listed_sorted}
 use Rattle.selector.specs.Tree.{Tree, grown, leaf}
-
-pick_same : {A : Type 0} (t : Bool) (a : A) → pick t a a ≡ a
-pick_same true a = refl
-pick_same false a = refl
-
-pick_test : (t : Bool) → pick t true false ≡ t
-pick_test true = refl
-pick_test false = refl
-
-module _ (gs : List ℕ) (g d x t c : ℕ) where
-  pub stand_far : t < degree_at gs g d → may_stand x gs t c g d ≡ false
-  unfolding may_stand
-  stand_far h = simp (lt-leb _ _ h)
-
-  pub stand_full : c < constants_of x gs g + d → may_stand x gs t c g d ≡ false
-  unfolding may_stand
-  stand_full h = simp (lt-leb _ _ h, pick_same)
-
-  -- within the bound, the degree decides
-  pub stand_by : constants_of x gs g + d ≤ c → may_stand x gs t c g d ≡ leb (degree_at gs g d) t
-  unfolding may_stand
-  stand_by h = simp (le-leb _ _ h) (pick_test (leb (degree_at gs g d) t))
-
-  pub stand_lookup : kind_of gs g ≡ 3 → constants_of x gs g + d ≤ c → may_stand x gs t c g d ≡ leb (max d 2) t
-  unfolding degree_at
-  stand_lookup e h = stand_by h ∙ simp (eq-eqb _ _ e)
-
-  plain : (kind_of gs g ≡ 3 → ⊥) → degree_at gs g d ≡ d + degree_of gs g
-  unfolding degree_at
-  plain e = simp (ne_eqb _ _ e)
-
-  pub stand_deep : (kind_of gs g ≡ 3 → ⊥) → t < d → may_stand x gs t c g d ≡ false
-  stand_deep e h = stand_far (omega (arith, plain e))
-
-  pub stand_plain : (kind_of gs g ≡ 3 → ⊥) → constants_of x gs g + d ≤ c → d ≤ t
-      → may_stand x gs t c g d ≡ leb (degree_of gs g) (t - d)
-  stand_plain e h k = stand_by h ∙ ap (λ (z : ℕ). leb z t) (plain e) ∙ by (dec_le (degree_of gs g) (t - d))
-    where
-      by : Dec (degree_of gs g ≤ t - d) → leb (d + degree_of gs g) t ≡ leb (degree_of gs g) (t - d)
-      by (yes z) = le-leb (d + degree_of gs g) t (omega arith) ∙ sym (le-leb (degree_of gs g) (t - d) z)
-      by (no z) = lt-leb (d + degree_of gs g) t (omega arith) ∙ sym (lt-leb (degree_of gs g) (t - d) (omega arith))
 
 pub listed_get : (m : ℕ) (l : List ℕ) (k : ℕ) → Listed m l → k < length l → get_or l k 0 < m
 listed_get m [] k h j = absurd (omega arith)
@@ -140,31 +98,6 @@ module _ (fit : ℕ → ℕ → Bool) (gs : List ℕ) where
         → Growing fit gs m base o ns₀ (offer_node most_levels fit (get_or o i 0) 0 0 ns n).nodes (offer_node most_levels fit (get_or o i 0) 0 0 ns n).count (i + 1)
     grow_next ns n i w h more =
         grow_by ns n i w h (offer_node most_levels fit (get_or o i 0) 0 0 ns n) refl more (spot fit (get_or o i 0) gs ns n most_levels 0 0 (w.ready h))
-
-    pub grow_begin : (ns : List ℕ) → base < most_gates → length ns ≡ node_slots → ns₀ ≡ put ns 0 0 0 (get_or o base 0) → Growing fit gs m base o ns₀ ns₀ 1 (base + 1)
-    grow_begin ns h l e =
-        let g = get_or o base 0 in
-        let long : length ns₀ ≡ node_slots = ap length e ∙ length-put ns 0 0 0 g ∙ l in
-        let left : left_at ns₀ 0 ≡ 0 = ap (λ (z : List ℕ). left_at z 0) e ∙ put-left ns 0 0 0 g (omega arith) in
-        let right : right_at ns₀ 0 ≡ 0 = ap (λ (z : List ℕ). right_at z 0) e ∙ put_right ns 0 0 0 g (omega arith) in
-        let gate : gate_at ns₀ 0 ≡ g = ap (λ (z : List ℕ). gate_at z 0) e ∙ put_gate ns 0 0 0 g (omega arith) in
-        let low = listed_at m o base base listed (omega arith) (omega arith) in
-        record {
-          some = omega arith;
-          upto = omega arith;
-          twice = omega arith;
-          long = long;
-          ready = λ y.
-              record {
-                room = omega arith;
-                here = omega arith;
-                listed = omega (arith, listed_at m o base (base + 1) listed (omega arith) (omega arith));
-                lefts = λ k z. let q : k ≡ 0 = omega arith in rw (q, left) (omega arith);
-                rights = λ k z. let q : k ≡ 0 = omega arith in rw (q, right) (omega arith);
-                gates = λ k z. let q : k ≡ 0 = omega arith in rw (q, gate) (omega (arith, low));
-              };
-          same = refl;
-        }
 
     pub grow_fits : (ns : List ℕ) → base < most_gates → ns₀ ≡ put ns 0 0 0 (get_or o base 0) → fit (get_or o base 0) 0 ≡ true
         → grow_flat fit (drop base o) ns ≡ grow_from fit (drop (base + 1) o) ns₀ 1
@@ -243,13 +176,6 @@ cap-next (suc (suc zero)) t h j l = omega arith
 cap-next (suc (suc (suc zero))) t h j l = omega arith
 cap-next (suc (suc (suc (suc zero)))) t h j l = omega arith
 cap-next (suc (suc (suc (suc (suc k))))) t h j l = absurd (omega arith)
-
-pub cap_all : (k : ℕ) → cap k ≤ 16384
-cap_all zero = omega arith
-cap_all (suc zero) = omega arith
-cap_all (suc (suc zero)) = omega arith
-cap_all (suc (suc (suc zero))) = omega arith
-cap_all (suc (suc (suc (suc k)))) = omega arith
 
 module _ (gs : List ℕ) (m x : ℕ) where
   abbrev pub in_order : List ℕ

@@ -37,6 +37,7 @@ pub(crate) fn blocked_by(gates: &[u64], many: usize, bits: &Marks) -> bool
 }
 
 // Which of the listed gates have rows that are turned away, those without a selector where they are blocked; and the constants of each, where the lookup gate has `extra`.
+#[tactic(auto, using(base::specs::Fills::filled_none, base::specs::Fills::filled_next))]
 pub(crate) fn list_gates(
     gates: &[u64],
     many: usize,

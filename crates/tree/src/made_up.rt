@@ -89,6 +89,7 @@ fn linked_at(nodes: &[u64], count: usize, at: usize) -> bool
     }
 }
 
+#[tactic(auto, using(crate::proofs::MadeUpLaws::links_left))]
 fn linked(nodes: &[u64], count: usize) -> bool
     requires { (count ≤ most_nodes) × (node_slots ≤ length nodes.now) }
     ensures { result ≡ linked_from count nodes.now count 0 }
@@ -110,6 +111,7 @@ pub(crate) fn is_wanted(gates: &[u64], many: usize, gate: usize) -> bool
     many == 1 || gates[gate * GATE_WORDS] != 2
 }
 
+#[tactic(auto, using(crate::proofs::MadeUpLaws::wanted_left))]
 fn as_wanted<'a>(gates: &'a [u64], marks: &'a Marks, many: usize) -> bool
     requires { (many * gate_words ≤ length gates.now) × (many ≤ most_gates) }
     ensures { result ≡ as_wanted many gates.now many (λ (g : ℕ). get_or marks.now g 0) 0 }

@@ -1,10 +1,10 @@
 // The plan's node words: the tree in preorder, with D and K.
-ghost use Rattle.std.specs.Prelude.{◌≡◌, ℕ, ◌+◌, ◌≤◌, ◌<◌};
+ghost use Rattle.std.specs.Prelude.{◌≡◌, ℕ, ◌+◌, ◌≤◌, ◌<◌, IfSome};
 ghost use Rattle.selector.specs.Inner.{depth, Holds, Sound};
 ghost use Rattle.selector.specs.Tree.{Tree};
 ghost use Rattle.selector.specs.Search.{plan_tree};
 ghost use Rattle.selector.specs.Nodes.{put, most_nodes};
-ghost use Rattle.tree.specs.Shapes.{shape_of};
+ghost use Rattle.tree.specs.Shapes.{shape_of, shape_or_zeros};
 ghost use Rattle.tree.specs.Layout.{Room, Done};
 
 use crate::gates::{constants_of, degree_at_depth, factor_of};
@@ -32,7 +32,7 @@ pub struct Stats {
     pub constants: u64,
 }
 
-// A tree's node words, and its D, K and F; all zeros where there is no tree.
+// A tree's node words, and its D, K and F.
 #[derive(Clone, Copy)]
 pub struct Shape {
     pub nodes: Nodes,
@@ -79,8 +79,7 @@ fn lay<'a>(
     }
     let inner = Stats {
         next: next + 1,
-        degree: stats.degree,
-        constants: stats.constants,
+        ..stats
     };
     let below = level + 1;
     let rest = levels - 1;
@@ -91,23 +90,15 @@ fn lay<'a>(
     lay(gates, old, new, many, right, below, rest, extra, done)
 }
 
-// The shape of a list of gates.
-pub(crate) fn shape_of(gates: &[u64], many: usize, extra: u64) -> Shape
+// The shape of a list of gates, if they have a tree.
+pub(crate) fn shape_of(gates: &[u64], many: usize, extra: u64) -> Option<Shape>
     requires { Sound gates.now many extra }
-    ensures { result ≡ shape_of extra gates.now (plan_tree extra gates.now many) }
+    ensures shape { shape_or_zeros result ≡ shape_of extra gates.now (plan_tree extra gates.now many) }
+    ensures some { IfSome result (λ shape. 0 < shape.count) }
 {
     let mut old = [0; NODE_SLOTS];
+    compute_placement(gates, &mut old, many, extra)?;
     let mut new = [0; NODE_SLOTS];
-    let count = compute_placement(gates, &mut old, many, extra);
-    if count == 0 {
-        return Shape {
-            nodes: new,
-            count: 0,
-            degree: 0,
-            constants: 0,
-            factor: 0,
-        };
-    }
     let none = Stats {
         next: 0,
         degree: 0,
@@ -115,11 +106,11 @@ pub(crate) fn shape_of(gates: &[u64], many: usize, extra: u64) -> Shape
     };
     let done = lay(gates, &old, &mut new, many, 0, 0, LAID_LEVELS, extra, none);
     let factor = factor_of(done.degree);
-    Shape {
+    Some(Shape {
         nodes: new,
         count: done.next as u64,
         degree: done.degree,
         constants: done.constants,
         factor,
-    }
+    })
 }

@@ -41,10 +41,9 @@ pub fn plan(parameters: Parameters, gates: &[u64]) -> Result<Plan, Refusal>
 {
     check_words(parameters, gates)?;
     let many = gates.len() / GATE_WORDS;
-    let shape = shape_of(gates, many, extra_of(parameters.mode));
-    if shape.count == 0 {
+    let Some(shape) = shape_of(gates, many, extra_of(parameters.mode)) else {
         return Err(Refusal::NoPlace);
-    }
+    };
     let kept = in_array(gates);
     let nodes = shape.nodes;
     Ok(Plan {

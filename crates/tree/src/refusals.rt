@@ -35,6 +35,7 @@ fn check_record(kind: u64, degree: u64, constants: u64) -> Result<(), Refusal>
 }
 
 // "4 first bad record".
+#[tactic(auto, using(crate::proofs::RefusalsLaws::records_left))]
 fn check_records(gates: &[u64], many: usize) -> Result<(), Refusal>
     requires { many * gate_words ≤ length gates.now }
     ensures { answer_number result ≡ records_number many gates.now 0 }
@@ -47,6 +48,7 @@ fn check_records(gates: &[u64], many: usize) -> Result<(), Refusal>
 }
 
 // Whether one of the gates from `from` on has this kind.
+#[tactic(auto, using(crate::proofs::RefusalsLaws::kinds_left))]
 fn some_kind(gates: &[u64], many: usize, kind: u64, from: usize) -> bool
     requires { (many * gate_words ≤ length gates.now) × (from ≤ many) }
     ensures { result ≡ some_kind kind (many - from) gates.now from }
@@ -107,6 +109,7 @@ fn top_constants(gates: &[u64], many: usize, extra: u64) -> u64
     ensures { result ≡ top_constants extra gates.now (placed_gates gates.now many) }
 {
     let mut constants = 0;
+    // counts down, as the gates are arranged
     for g in (0..many).rev() {
         if gates[g * GATE_WORDS] != 2 {
             constants = constants_of(gates, g as u64, extra).max(constants);

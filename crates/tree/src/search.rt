@@ -1,5 +1,5 @@
 // The search for a tree, over nodes in a flat array, three words a node: left (0: a leaf), right, gate.
-ghost use Rattle.std.specs.Prelude.{◌≡◌, ℕ, ◌+◌, ◌*◌, ◌≤◌, ◌<◌, length, drop};
+ghost use Rattle.std.specs.Prelude.{◌≡◌, ℕ, ◌+◌, ◌*◌, ◌≤◌, ◌<◌, IfSome, length, drop};
 ghost use Rattle.selector.specs.Nodes.{most_nodes, node_slots, most_levels};
 ghost use Rattle.base.specs.Limits.{most_gates};
 ghost use Rattle.selector.specs.Inner.{Listed, Distinct, Sound};
@@ -7,7 +7,7 @@ ghost use Rattle.selector.specs.Gates.{gate_words};
 ghost use Rattle.selector.specs.Tree.{grown};
 ghost use Rattle.selector.specs.Search.{may_stand, first_bound, search_tree, plan_tree};
 ghost use Rattle.selector.specs.Flat.{split_flat, offer_node, offer_fork, Fine, Stands};
-ghost use Rattle.tree.specs.Offers.{fits_offer};
+ghost use Rattle.tree.specs.Offers.{count_of, fits_offer};
 
 use crate::gates::{constants_of, factor_of};
 use crate::nodes::put_node;
@@ -112,7 +112,7 @@ fn try_add_to_sides(
     try_add_gate(gates, nodes, count, right, depth, levels, offer)
 }
 
-// The tree of the gates order[base..], offered in order: how many nodes it has, or 0 where a gate is refused.
+// The tree of the gates order[base..], offered in order: how many nodes it has, or none where a gate is refused.
 fn place_all<'a>(
     gates: &'a [u64],
     order: &'a Marks,
@@ -122,40 +122,40 @@ fn place_all<'a>(
     extra: u64,
     target: u64,
     bound: u64,
-) -> usize
+) -> Option<usize>
     requires gate_words_in_bounds { (many * gate_words ≤ length gates.now) × (bound ≤ most_levels) × (length order.now ≡ most_gates) × (length nodes.old ≡ node_slots) }
     requires listed { Listed many (drop base order.now) }
     requires distinct { Distinct (drop base order.now) }
-    ensures stands { Stands many (grown (may_stand extra gates.now target bound) (drop base order.now)) nodes.new result }
+    ensures stands { Stands many (grown (may_stand extra gates.now target bound) (drop base order.now)) nodes.new (count_of result) }
+    ensures some { IfSome result (λ n. 0 < n) }
     ensures nodes_len { length nodes.new ≡ node_slots }
 {
     if MOST_GATES <= base {
-        return 0;
+        return None;
     }
-    let gate = order[base];
     let first = Offer {
-        gate,
+        gate: order[base],
         target,
         bound,
         extra,
     };
-    if may_stand(gates, gate, 0, first) {
-        put_node(nodes, 0, 0, 0, gate);
-        let mut count = 1;
-        for i in base + 1..MOST_GATES {
-            let offer = Offer {
-                gate: order[i],
-                ..first
-            };
-            let taken = try_add_gate(gates, nodes, count, 0, 0, MOST_LEVELS, offer);
-            if taken == count {
-                return 0;
-            }
-            count = taken;
-        }
-        return count;
+    if !may_stand(gates, first.gate, 0, first) {
+        return None;
     }
-    0
+    put_node(nodes, 0, 0, 0, first.gate);
+    let mut count = 1;
+    for i in base + 1..MOST_GATES {
+        let offer = Offer {
+            gate: order[i],
+            ..first
+        };
+        let taken = try_add_gate(gates, nodes, count, 0, 0, MOST_LEVELS, offer);
+        if taken == count {
+            return None;
+        }
+        count = taken;
+    }
+    Some(count)
 }
 
 // The first tree of the bounds from `bound` on, `left` of them.
@@ -169,27 +169,28 @@ fn try_find_placement_for_degree<'a>(
     target: u64,
     bound: u64,
     left: u64,
-) -> usize
+) -> Option<usize>
     requires gate_words_in_bounds { (many * gate_words ≤ length gates.now) × (bound + left ≤ most_levels + 1) × (length order.now ≡ most_gates) × (length nodes.old ≡ node_slots) }
     requires listed { Listed many (drop base order.now) }
     requires distinct { Distinct (drop base order.now) }
-    ensures stands { Stands many (first_bound (λ (b : ℕ). grown (may_stand extra gates.now target b) (drop base order.now)) left bound) nodes.new result }
+    ensures stands { Stands many (first_bound (λ (b : ℕ). grown (may_stand extra gates.now target b) (drop base order.now)) left bound) nodes.new (count_of result) }
+    ensures some { IfSome result (λ n. 0 < n) }
     ensures nodes_len { length nodes.new ≡ node_slots }
 {
     for b in bound..bound + left {
-        let count = place_all(gates, order, nodes, many, base, extra, target, b);
-        if count != 0 {
-            return count;
+        if let Some(count) = place_all(gates, order, nodes, many, base, extra, target, b) {
+            return Some(count);
         }
     }
-    0
+    None
 }
 
 // The search: the targets from the factor of M on, and for each the bounds G to G + L + 1.
-fn search(gates: &[u64], nodes: &mut Nodes, many: usize, extra: u64) -> usize
+fn search(gates: &[u64], nodes: &mut Nodes, many: usize, extra: u64) -> Option<usize>
     requires sound { Sound gates.now many extra }
     requires nodes_len { length nodes.old ≡ node_slots }
-    ensures stands { Stands many (search_tree extra gates.now many) nodes.new result }
+    ensures stands { Stands many (search_tree extra gates.now many) nodes.new (count_of result) }
+    ensures some { IfSome result (λ n. 0 < n) }
     ensures nodes_len_2 { length nodes.new ≡ node_slots }
 {
     let mut order = [0; MOST_GATES];
@@ -199,7 +200,7 @@ fn search(gates: &[u64], nodes: &mut Nodes, many: usize, extra: u64) -> usize
     let left = levels.exponent + (EXTRA_LEVELS + 1);
     let mut target = factor_of(ranged.degree);
     for _ in 0..TARGETS {
-        let count = try_find_placement_for_degree(
+        if let Some(count) = try_find_placement_for_degree(
             gates,
             &order,
             nodes,
@@ -209,25 +210,30 @@ fn search(gates: &[u64], nodes: &mut Nodes, many: usize, extra: u64) -> usize
             target,
             ranged.constants,
             left,
-        );
-        if count != 0 {
-            return count;
+        ) {
+            return Some(count);
         }
         target *= 2;
     }
-    0
+    None
 }
 
-// The tree of a list of gates: a lone leaf for one gate, else what the search finds. The number of its nodes, or 0.
-pub(crate) fn compute_placement(gates: &[u64], nodes: &mut Nodes, many: usize, extra: u64) -> usize
+// The tree of a list of gates: a lone leaf for one gate, else what the search finds. The number of its nodes, if there is one.
+pub(crate) fn compute_placement(
+    gates: &[u64],
+    nodes: &mut Nodes,
+    many: usize,
+    extra: u64,
+) -> Option<usize>
     requires sound { Sound gates.now many extra }
     requires nodes_len { length nodes.old ≡ node_slots }
-    ensures stands { Stands many (plan_tree extra gates.now many) nodes.new result }
+    ensures stands { Stands many (plan_tree extra gates.now many) nodes.new (count_of result) }
+    ensures some { IfSome result (λ n. 0 < n) }
     ensures nodes_len_2 { length nodes.new ≡ node_slots }
 {
     if many == 1 {
         put_node(nodes, 0, 0, 0, 0);
-        return 1;
+        return Some(1);
     }
     search(gates, nodes, many, extra)
 }

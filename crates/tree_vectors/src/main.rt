@@ -2,15 +2,15 @@
 // tree.words) and writes how many records and words were compared, and how many differed.
 #![tactic(auto)]
 
-ghost use Rattle.std.specs.Prelude.{◌≡◌, length};
+ghost use Rattle.std.specs.Prelude.{◌≡◌, ◌≤◌, length};
 
 use octets::input::fill as read_input;
 use parameters::parameters::Parameters;
+use refusal::Refusal;
 use replay::Replay;
-use selector::{GATE_SLOTS, GateSlots, NODE_SLOTS, Nodes};
+use selector::{GATE_SLOTS, NODE_SLOTS};
 use std::io;
 use tree::plan::Plan;
-use tree::planning::Planned;
 
 // Room for the recording.
 fn space() -> [u8; 196608]
@@ -48,35 +48,38 @@ fn past_parameters(start: Replay) -> Replay {
 // Words go to the front of an array, as many as are counted and as fit.
 fn fill(bytes: &[u8], start: Replay, count: u64, words: &mut [u64; 1024]) -> Replay {
     let mut s = start;
-    let mut i: usize = 0;
-    while i < 1024 {
-        if count <= i as u64 {
-            return s;
-        }
-        words[i] = s.word(bytes);
+    for word in words.iter_mut().take(count as usize) {
+        *word = s.word(bytes);
         s = s.step();
-        i += 1;
     }
     s
 }
 
-// What is answered of the listed gates.
-fn replay_paths(bytes: &[u8], start: Replay, plan: Plan, gates: u64) -> Replay {
+// What is answered of a listed gate: bits, length and 1 where it has no selector.
+fn replay_path(bytes: &[u8], start: Replay, plan: Plan, gate: u64) -> Replay {
+    let answer = plan.path(gate);
+    let (bits, length, bare) = match answer {
+        Ok(Some(path)) => (path.bits, path.length, 0),
+        Ok(None) => (0, 0, 1),
+        Err(_) => (0, 0, 0),
+    };
+    start
+        .expect(bytes, bits)
+        .expect(bytes, length)
+        .expect(bytes, bare)
+        .note(answer.is_ok())
+}
+
+// What is answered of the listed gates, and of the first that is not.
+fn replay_paths(bytes: &[u8], start: Replay, plan: Plan) -> Replay {
     let mut s = start;
-    let mut left = gates % 256;
-    let mut gate: u64 = 0;
-    while 0 < left {
-        let path = plan.path(gate);
-        let selection = path.selection;
-        s = s
-            .expect(bytes, selection.bits())
-            .expect(bytes, selection.length())
-            .expect(bytes, selection.bare())
-            .note(path.number == 0);
-        left -= 1;
-        gate = (gate + 1) % 256;
+    for gate in 0..plan.gate_count % 256 {
+        s = replay_path(bytes, s, plan, gate);
     }
-    s.note(plan.path(gates).number == 12)
+    s.note(
+        plan.path(plan.gate_count)
+            .is_err_and(|refusal| refusal == Refusal::RowRecord),
+    )
 }
 
 // What is recorded of an accepted plan: D, K, F, paths and the table-id index.
@@ -85,21 +88,33 @@ fn replay_accepted(bytes: &[u8], start: Replay, plan: Plan) -> Replay {
         .expect(bytes, plan.degree)
         .expect(bytes, plan.constants)
         .expect(bytes, plan.factor);
-    let t = replay_paths(bytes, s, plan, plan.gate_count);
-    let id = plan.table_id();
-    t.expect(bytes, id.count)
-        .expect(bytes, id.index)
-        .note(id.number == 0)
-        .note(plan.fault() == 0)
+    let answer = plan.table_id();
+    let index = answer.unwrap_or(None);
+    replay_paths(bytes, s, plan)
+        .expect(bytes, u64::from(index.is_some()))
+        .expect(bytes, index.unwrap_or(0))
+        .note(answer.is_ok())
+        .note(plan.fault().is_ok())
+}
+
+// Whether an answer is the refusal of a made-up plan.
+fn is_made_up<A: Copy>(answer: Result<A, Refusal>) -> bool {
+    answer.is_err_and(|refusal| refusal == Refusal::MadeUp)
+}
+
+// The plan of zeros is a made-up one.
+fn replay_zero(start: Replay) -> Replay {
+    let plan = Plan::zero();
+    start
+        .note(is_made_up(plan.fault()))
+        .note(is_made_up(plan.path(0)))
+        .note(is_made_up(plan.table_id()))
 }
 
 // The plan of the first words of an array.
-fn plan_of(given: Parameters, words: [u64; 1024], count: u64) -> Planned {
-    let end = count as usize;
-    if end < 1024 {
-        return tree::planning::plan(given, &words[..end]);
-    }
-    tree::planning::plan(given, &words)
+fn plan_of(given: Parameters, words: [u64; 1024], count: u64) -> Result<Plan, Refusal> {
+    let end = count.min(1024) as usize;
+    tree::planning::plan(given, &words[..end])
 }
 
 fn replay_plan(bytes: &[u8], start: Replay) -> Replay {
@@ -108,47 +123,28 @@ fn replay_plan(bytes: &[u8], start: Replay) -> Replay {
     let count = s.word(bytes);
     let mut words = [0; 1024];
     let t = fill(bytes, s.step(), count, &mut words);
-    let planned = plan_of(given, words, count);
-    let u = t.expect(bytes, planned.number);
-    let plan = planned.plan;
-    if planned.number == 0 {
-        return replay_accepted(bytes, u, plan);
+    match plan_of(given, words, count) {
+        Ok(plan) => replay_accepted(bytes, t.expect(bytes, 0), plan),
+        Err(refusal) => replay_zero(t.expect(bytes, refusal.number())),
     }
-    u.note(plan.fault() == 19)
-        .note(plan.path(0).number == 19)
-        .note(plan.table_id().number == 19)
 }
 
 // The first words of an array.
-fn gate_words(words: [u64; 1024]) -> GateSlots {
-    let mut kept = [0; GATE_SLOTS];
-    let mut i: usize = 0;
-    while i < GATE_SLOTS {
-        kept[i] = words[i];
-        i += 1;
-    }
-    kept
-}
-
-fn node_words(words: [u64; 1024]) -> Nodes {
-    let mut kept = [0; NODE_SLOTS];
-    let mut i: usize = 0;
-    while i < NODE_SLOTS {
-        kept[i] = words[i];
-        i += 1;
-    }
+fn front<const N: usize>(words: &[u64; 1024]) -> [u64; N]
+    requires { N ≤ 1024 }
+{
+    let mut kept = [0; N];
+    kept.copy_from_slice(&words[..N]);
     kept
 }
 
 // Whether a plan can hold the words of a lookup mode: a mode of 0 to 4, a flag of 0 or 1, and no width or flag without a lookup.
 fn holds(given: Parameters) -> bool {
     let lookup = given.lookup();
-    if lookup.mode() == given.mode {
-        if lookup.lookup_width() == given.width {
-            return lookup.share_table_id() == (given.share == 1) && given.share < 2;
-        }
-    }
-    false
+    lookup.mode() == given.mode
+        && lookup.lookup_width() == given.width
+        && lookup.share_table_id() == (given.share == 1)
+        && given.share < 2
 }
 
 // A made-up plan: parameters, gates, nodes, D, K and F; then its number. Words that no plan can hold are turned down as well.
@@ -172,9 +168,9 @@ fn replay_made_up(bytes: &[u8], start: Replay) -> Replay {
         specialised: given.specialised,
         variables: given.variables,
         lookup: given.lookup(),
-        gates: gate_words(words),
+        gates: front::<GATE_SLOTS>(&words),
         gate_count: gates,
-        nodes: node_words(links),
+        nodes: front::<NODE_SLOTS>(&links),
         node_count: nodes,
         degree: x.word(bytes),
         constants: y.word(bytes),
@@ -182,27 +178,23 @@ fn replay_made_up(bytes: &[u8], start: Replay) -> Replay {
     };
     let last = z.step();
     if holds(given) {
-        return last.expect(bytes, plan.fault());
+        return last.expect(bytes, refusal::answer_number(plan.fault()));
     }
     last.expect(bytes, 19)
 }
 
 fn replay_plans(bytes: &[u8], start: Replay, count: u64) -> Replay {
     let mut s = start;
-    let mut left = count;
-    while 0 < left {
+    for _ in 0..count {
         s = replay_plan(bytes, s);
-        left -= 1;
     }
     s
 }
 
 fn replay_made_up_plans(bytes: &[u8], start: Replay, count: u64) -> Replay {
     let mut s = start;
-    let mut left = count;
-    while 0 < left {
+    for _ in 0..count {
         s = replay_made_up(bytes, s);
-        left -= 1;
     }
     s
 }

@@ -16,13 +16,6 @@ returns-then-met-g-ne0 c =
     let a = c.args in
     record { result_after = sym (meet_twice a.extra a.gates.now a.many a.gate a.level (walk a.met.now true) c.if-many-gate.false c.if-met-g-ne0.true); most = record { small = omega arith } }
 
-pub degree_at_depth-requires : goal.degree_at_depth-requires
-degree_at_depth-requires c =
-    let a = c.args in
-    let p = c.requires in
-    let g = c.if-many-gate.false in
-    (omega (arith, p.sound.all, g), omega (arith, p.level_bound), p.sound.degrees a.gate g)
-
 pub overflow_add-constants_of : goal.overflow_add-constants_of
 overflow_add-constants_of c =
     let a = c.args in

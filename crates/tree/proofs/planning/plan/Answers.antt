@@ -24,27 +24,27 @@ returns-in_err-check_words-clause-plan c =
     nothing_answered zero_plan c.from_residual.result r c.from_residual.ensures.1
     ∙ ap (λ (p : Planned). p.plan) (answer-words a.parameters a.gates.now _ c.in_err-check_words.ensures (refusal_nonzero r))
 
-pub shape_of-shape-requires : goal.shape_of-shape-requires
-shape_of-shape-requires c =
+pub shape_of-requires : goal.shape_of-requires
+shape_of-requires c =
     let a = c.args in
     let w = words_accepted a.parameters a.gates.now (sym c.in_ok-check_words.ensures) in
     rw c.extra_of.ensures w.sound
 
-pub returns-then-shape-eq0-clause-number : goal.returns-then-shape-eq0-clause-number
-returns-then-shape-eq0-clause-number c =
+pub returns-in_default-clause-number : goal.returns-in_default-clause-number
+returns-in_default-clause-number c =
     let a = c.args in
     let w = sym c.in_ok-check_words.ensures in
-    let s : c.shape_of-shape.result ≡ shape_for a.parameters a.gates.now =
-    c.shape_of-shape.ensures ∙ ap (λ (x : ℕ). shape_of x a.gates.now (plan_tree x a.gates.now (count_of_gates a.gates.now))) c.extra_of.ensures in
-    ap (λ (p : Planned). p.number) (answer-none a.parameters a.gates.now w (sym (ap (λ (z : Shape). z.count) s) ∙ c.if-shape-eq0.true))
+    let s = c.in_default.ensures.shape
+    ∙ ap (λ (x : ℕ). shape_of x a.gates.now (plan_tree x a.gates.now (count_of_gates a.gates.now))) c.extra_of.ensures in
+    ap (λ (p : Planned). p.number) (answer-none a.parameters a.gates.now w (sym (ap (λ (z : Shape). z.count) s)))
 
-pub returns-then-shape-eq0-clause-plan : goal.returns-then-shape-eq0-clause-plan
-returns-then-shape-eq0-clause-plan c =
+pub returns-in_default-clause-plan : goal.returns-in_default-clause-plan
+returns-in_default-clause-plan c =
     let a = c.args in
     let w = sym c.in_ok-check_words.ensures in
-    let s : c.shape_of-shape.result ≡ shape_for a.parameters a.gates.now =
-    c.shape_of-shape.ensures ∙ ap (λ (x : ℕ). shape_of x a.gates.now (plan_tree x a.gates.now (count_of_gates a.gates.now))) c.extra_of.ensures in
-    ap (λ (p : Planned). p.plan) (answer-none a.parameters a.gates.now w (sym (ap (λ (z : Shape). z.count) s) ∙ c.if-shape-eq0.true))
+    let s = c.in_default.ensures.shape
+    ∙ ap (λ (x : ℕ). shape_of x a.gates.now (plan_tree x a.gates.now (count_of_gates a.gates.now))) c.extra_of.ensures in
+    ap (λ (p : Planned). p.plan) (answer-none a.parameters a.gates.now w (sym (ap (λ (z : Shape). z.count) s)))
 
 pub in_array-kept-requires : goal.in_array-kept-requires
 in_array-kept-requires c =
@@ -56,14 +56,14 @@ pub returns-clause-number : goal.returns-clause-number
 returns-clause-number c =
     let a = c.args in
     let w = sym c.in_ok-check_words.ensures in
-    let s : c.shape_of-shape.result ≡ shape_for a.parameters a.gates.now =
-    c.shape_of-shape.ensures ∙ ap (λ (x : ℕ). shape_of x a.gates.now (plan_tree x a.gates.now (count_of_gates a.gates.now))) c.extra_of.ensures in
-    ap (λ (p : Planned). p.number) (answer-some a.parameters a.gates.now w (λ z. c.if-shape-eq0.false (ap (λ (y : Shape). y.count) s ∙ z)))
+    let s : c.in-Some.shape ≡ shape_for a.parameters a.gates.now = c.in-Some.ensures.shape
+    ∙ ap (λ (x : ℕ). shape_of x a.gates.now (plan_tree x a.gates.now (count_of_gates a.gates.now))) c.extra_of.ensures in
+    ap (λ (p : Planned). p.number) (answer-some a.parameters a.gates.now w (λ z. omega (arith, z, c.in-Some.ensures.some, ap (λ (y : Shape). y.count) s)))
 
 pub returns-clause-plan : goal.returns-clause-plan
 returns-clause-plan c =
     let a = c.args in
     let w = sym c.in_ok-check_words.ensures in
-    let s : c.shape_of-shape.result ≡ shape_for a.parameters a.gates.now =
-    c.shape_of-shape.ensures ∙ ap (λ (x : ℕ). shape_of x a.gates.now (plan_tree x a.gates.now (count_of_gates a.gates.now))) c.extra_of.ensures in
-    rw (c.in_array-kept.ensures, c.lookup.ensures, s) (ap (λ (p : Planned). p.plan) (answer-some a.parameters a.gates.now w (λ z. c.if-shape-eq0.false (ap (λ (y : Shape). y.count) s ∙ z))))
+    let s : c.in-Some.shape ≡ shape_for a.parameters a.gates.now = c.in-Some.ensures.shape
+    ∙ ap (λ (x : ℕ). shape_of x a.gates.now (plan_tree x a.gates.now (count_of_gates a.gates.now))) c.extra_of.ensures in
+    rw (c.in_array-kept.ensures, c.lookup.ensures, s) (ap (λ (p : Planned). p.plan) (answer-some a.parameters a.gates.now w (λ z. omega (arith, z, c.in-Some.ensures.some, ap (λ (y : Shape). y.count) s))))

@@ -1,5 +1,5 @@
 -- `refusals::top_constants` meets its contract. The loop goes down, so that the list of placed gates gains its head in each turn.
-use Rattle.std.proofs.Common.{◌-◌, ◌∙◌, ◌≡◌, arith}
+use Rattle.std.proofs.Common.{arith}
 use Rattle.selector.specs.SortLaws.{placed_skip}
 use Rattle.tree.proofs.RefusalsLaws.{top_begin, top_more}
 use Rattle.tree.proofs.refusals.top_constants.Goals as goal
@@ -21,11 +21,3 @@ loop-g-preserved c =
     let l = c.loop-g in
     let a = c.args in
     (omega arith, rw (placed_skip a.gates.now a.many l.g l.invariant.0 c.loop-g-test.true c.if-gates-g-ne2.false) l.invariant.1)
-
-pub returns : goal.returns
-returns c =
-    let l = c.loop-g in
-    let a = c.args in
-    let z : l.g ≡ 0 = omega arith in
-    let q : a.many - 0 ≡ a.many = omega arith in
-    l.invariant.1 ∙ rw (z, q)

@@ -4,35 +4,23 @@ use Rattle.tree.proofs.SearchLaws.{bound-lost, bound-none, bound_won}
 use Rattle.tree.proofs.search.try_find_placement_for_degree.Invariants.{each}
 use Rattle.tree.proofs.search.try_find_placement_for_degree.Goals as goal
 
-pub loop-b-init : goal.loop-b-init
-loop-b-init c =
-    let a = c.args in
-    let e : a.bound + a.left - a.bound ≡ a.left = omega arith in
-    (c.requires.gate_words_in_bounds.3, rw e refl)
-
-pub place_all-count-requires : goal.place_all-count-requires
-place_all-count-requires c =
-    let l = c.loop-b in
-    let p = c.requires in
-    record { gate_words_in_bounds = (p.gate_words_in_bounds.0, omega (arith, c.loop-b-test.true, p.gate_words_in_bounds.1), p.gate_words_in_bounds.2, l.invariant.0); listed = p.listed; distinct = p.distinct }
-
-pub returns-then-count-ne0 : goal.returns-then-count-ne0
-returns-then-count-ne0 c =
+pub returns-in-Some : goal.returns-in-Some
+returns-in-Some c =
     let l = c.loop-b in
     let a = c.args in
-    let e = c.place_all-count.ensures in
-    record { stands = rw l.invariant.1 (bound_won a.many (each a.gates.now a.order.now a.base a.extra a.target) (a.bound + a.left - l.b) l.b _ _ (omega (arith, c.loop-b-test.true)) e.stands c.if-count-ne0.true); nodes_len = e.nodes_len }
+    let e = c.in-Some.ensures in
+    record { stands = rw l.invariant.1 (bound_won a.many (each a.gates.now a.order.now a.base a.extra a.target) (a.bound + a.left - l.b) l.b _ _ (omega (arith, c.loop-b-test.true)) e.stands (λ z. omega (arith, z, e.some))); some = e.some; nodes_len = e.nodes_len }
 
 pub loop-b-preserved : goal.loop-b-preserved
 loop-b-preserved c =
     let l = c.loop-b in
     let a = c.args in
-    let e = c.place_all-count.ensures in
+    let e = c.in_default.ensures in
     let q : a.bound + a.left - (l.b + 1) ≡ a.bound + a.left - l.b - 1 = omega arith in
-    (e.nodes_len, rw q (l.invariant.1 ∙ bound-lost a.many (each a.gates.now a.order.now a.base a.extra a.target) (a.bound + a.left - l.b) l.b _ _ (omega (arith, c.loop-b-test.true)) e.stands c.if-count-ne0.false))
+    (e.nodes_len, rw q (l.invariant.1 ∙ bound-lost a.many (each a.gates.now a.order.now a.base a.extra a.target) (a.bound + a.left - l.b) l.b _ _ (omega (arith, c.loop-b-test.true)) e.stands refl))
 
 pub returns : goal.returns
 returns c =
     let l = c.loop-b in
     let a = c.args in
-    record { stands = rw (l.invariant.1 ∙ bound-none a.many (each a.gates.now a.order.now a.base a.extra a.target) (a.bound + a.left - l.b) l.b (omega (arith, c.loop-b-test.false))) refl; nodes_len = l.invariant.0 }
+    record { stands = rw (l.invariant.1 ∙ bound-none a.many (each a.gates.now a.order.now a.base a.extra a.target) (a.bound + a.left - l.b) l.b (omega (arith, c.loop-b-test.false))) refl; some = tt; nodes_len = l.invariant.0 }

@@ -1,9 +1,0 @@
--- `tree_vectors::fill` is safe and ends. It goes through the slots.
-use Rattle.std.proofs.Common.{◌-◌, ◌≤◌}
-use Rattle.tree_vectors.proofs.fill.Given as goal
-
-abbrev pub invariant-loop-i : goal.invariant-loop-i
-invariant-loop-i l = l.i ≤ 1024
-
-abbrev pub decreases-loop-i : goal.decreases-loop-i
-decreases-loop-i l = 1024 - l.i

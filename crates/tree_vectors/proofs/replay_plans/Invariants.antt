@@ -1,8 +1,0 @@
--- `tree_vectors::replay_plans` is safe and ends. The measure is what is left; nothing has to hold from turn to turn.
-use Rattle.tree_vectors.proofs.replay_plans.Given as goal
-
-abbrev pub invariant-loop-left : goal.invariant-loop-left
-invariant-loop-left l = Unit {0}
-
-abbrev pub decreases-loop-left : goal.decreases-loop-left
-decreases-loop-left l = l.left
