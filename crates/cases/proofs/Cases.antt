@@ -1,7 +1,6 @@
 -- 01, 'Worked circuits': "Marked P: ..". "The P cases form a joint table, proved as one fact about the rules."
 --
 -- Main definition: `WorkedCircuits`. Main statement: `worked_circuits`.
-use Rattle.std.specs.Prelude.{◌-◌}
 use Rattle.field.proofs.Numerals.{worked as sums}
 use Rattle.labels.proofs.Numerals.{worked_labels}
 use Rattle.selector.specs.Examples.{p5}

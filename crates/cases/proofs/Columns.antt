@@ -33,7 +33,7 @@ use Rattle.pieces.specs.SWords.{s_words_number}
 use Rattle.pieces.specs.Cells.{cell_fault, cells_number, room_for_cells, first_seen, seen_again, place_cell, cells_run}
 use Rattle.pieces.specs.Tables.{tables_number}
 use Rattle.pieces.specs.Finishing.{every_from, complete, all_used, variable_fine, scratch_fine, finish_number, write_back, finish_from}
-use Rattle.pieces.specs.Calls.{Call, rows, number, taken, after, run}
+use Rattle.pieces.specs.Calls.{Call, number, taken, after, run}
 use Rattle.columns.specs.Intake.{setting_of, labels_of}
 use Rattle.claim.specs.Chain.{Kept}
 use Rattle.claim.specs.Statement.{setting_for, Opened, kept}

@@ -1,13 +1,12 @@
 -- P8: the worked listing, from its bytes to every byte that is printed.
 --
 -- Main statement: `printed-bytes`.
-use Rattle.std.specs.Prelude.{◌≡◌, refl, Bool, true, List, [], ◌∷◌, ℕ, ◌-◌, ◌%◌, eqb, length, replicate}
+use Rattle.std.specs.Prelude.{◌≡◌, refl, Bool, true, List, [], ◌∷◌, ℕ, ◌%◌, eqb, length, replicate}
 use Rattle.std.proofs.Common.{sym, ap, ◌∙◌, arith}
 use Rattle.std.proofs.Math.Option.{some, bind}
 use Rattle.base.specs.Exponent.{exponent_from}
 use Rattle.base.specs.Firsts.{or_number}
 use Rattle.base.specs.Pick.{pick, pick_yes}
-use Rattle.field.specs.Field.{p}
 use Rattle.labels.specs.Labels.{search_number, representatives_number}
 use Rattle.labels.specs.Ranges.{ranges_fit}
 use Rattle.labels.proofs.Numerals.{worked_labels}

@@ -2,7 +2,7 @@
 -- the contrary, is refused here.
 --
 -- Main definition: `SaidOfP8`. Main statement: `p8_says`.
-use Rattle.std.specs.Prelude.{◌≡◌, refl, ◌⊎◌, true, List, [], ◌∷◌, ℕ, zero, suc, ◌-◌, ◌<◌, length, get_or}
+use Rattle.std.specs.Prelude.{◌≡◌, refl, ◌⊎◌, true, List, [], ◌∷◌, ℕ, zero, suc, ◌<◌, length, get_or}
 use Rattle.std.proofs.Common.{sym, ap, ◌∙◌, inl, inr, arith}
 use Rattle.base.specs.Exponent.{exponent_from}
 use Rattle.base.specs.Firsts.{or_number}
@@ -20,7 +20,7 @@ use Rattle.pieces.specs.SWords.{s_word_fault, s_words_number, s_words_written}
 use Rattle.pieces.specs.Cells.{cell_fault, cells_number, room_for_cells, first_seen, seen_again, place_cell, cells_run}
 use Rattle.pieces.specs.Tables.{table_fault, tables_number, entries, table_lines, tables_written, sum_rows}
 use Rattle.pieces.specs.Finishing.{every_from, complete, all_used, variable_fine, scratch_fine, finish_number, write_back, finish_from}
-use Rattle.pieces.specs.Calls.{finishing, number, taken, after, run}
+use Rattle.pieces.specs.Calls.{number, taken, after, run}
 use Rattle.columns.specs.Intake.{labels_of}
 use Rattle.claim.specs.Statement.{Names, Agrees, Leads, Gap, Before, Permutation, product, RowOf, Right}
 use Rattle.claim.specs.Model.{circuit_by, FinishesBy}

@@ -32,7 +32,7 @@ use Rattle.pieces.specs.SWords.{s_word_fault, s_words_number, s_words_written}
 use Rattle.pieces.specs.Cells.{cell_fault, cells_number, room_for_cells, first_seen, seen_again, place_cell, cells_run}
 use Rattle.pieces.specs.Tables.{table_fault, tables_number, entries, table_lines, tables_written, sum_rows}
 use Rattle.pieces.specs.Finishing.{every_from, complete, all_used, variable_fine, scratch_fine, finish_number, write_back, finish_from}
-use Rattle.pieces.specs.Calls.{finishing, number, taken, after, run}
+use Rattle.pieces.specs.Calls.{number, taken, after, run}
 use Rattle.pieces.specs.Whole.{Circuit, columns_of, names_at, last_of, first_of, copy_at, scratch_at, laid_over}
 use Rattle.columns.specs.Intake.{store_of}
 use Rattle.claim.specs.Chain.{Kept}

@@ -7,12 +7,10 @@ use Rattle.selector.specs.Nodes.{node_words}
 use Rattle.selector.specs.Tree.{leaf}
 use Rattle.parameters.specs.Parameters.{parameters_at}
 use Rattle.parameters.specs.declared.lookup.LookupParameters.{LookupParameters}
-use Rattle.parameters.specs.declared.lookup.LookupParameters.TheVariants.{NoLookup}
 use Rattle.parameters.specs.declared.parameters.Parameters.{Parameters}
 use Rattle.tree.specs.declared.plan.Plan.{Plan}
 use Rattle.pieces.specs.Setting.{Store, cols}
-use Rattle.pieces.specs.Opening.{fresh}
-use Rattle.pieces.specs.Calls.{number, rows}
+use Rattle.pieces.specs.Calls.{rows}
 use Rattle.claim.specs.Chain.{answer}
 use Rattle.claim.specs.Statement.{kept}
 

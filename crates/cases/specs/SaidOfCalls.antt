@@ -7,11 +7,10 @@ use Rattle.field.specs.Field.{p}
 use Rattle.parameters.specs.Parameters.{parameters_at}
 use Rattle.parameters.specs.declared.parameters.Parameters.{Parameters}
 use Rattle.tree.specs.Plan.{zero_plan, plan_answer}
-use Rattle.pieces.specs.Calls.{rows, finishing, number}
+use Rattle.pieces.specs.Calls.{rows, finishing}
 use Rattle.columns.specs.Intake.{open_answer, open_left}
 use Rattle.claim.specs.Chain.{Kept, answer, left}
 use Rattle.claim.specs.Statement.{kept}
-use Rattle.claim.proofs.Theorem.{claim}
 use Rattle.cases.specs.Columns.{old, three, four, nop, two, p9_calls}
 
 -- ---- planning: N=3 is no power of two

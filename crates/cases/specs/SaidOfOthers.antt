@@ -4,7 +4,6 @@
 --
 -- Main definition: `SaidOfOthers`. Main statement: `others_say`.
 use Rattle.std.specs.Prelude.{◌≡◌, ◌≢◌, true, false, List, [], ◌∷◌, ℕ, ◌+◌, ◌-◌, ◌*◌, length, get_or, take, replicate}
-use Rattle.base.specs.Tables.{table}
 use Rattle.field.specs.Field.{p}
 use Rattle.selector.specs.Nodes.{node_words}
 use Rattle.selector.specs.Tree.{leaf}
@@ -13,16 +12,14 @@ use Rattle.parameters.specs.declared.lookup.LookupParameters.TheVariants.{NoLook
 use Rattle.selector.specs.Paths.{path_of}
 use Rattle.parameters.specs.declared.parameters.Parameters.{Parameters}
 use Rattle.tree.specs.declared.plan.Plan.{Plan}
-use Rattle.pieces.specs.Setting.{Setting, Store, cols, stands}
-use Rattle.pieces.specs.Records.{cut}
+use Rattle.pieces.specs.Setting.{Setting, Store, cols}
 use Rattle.pieces.specs.Opening.{fresh}
 use Rattle.pieces.specs.Cells.{placeholder}
-use Rattle.pieces.specs.Calls.{Call, rows, s_words, cell_words, table_words, finishing, number, after, run}
+use Rattle.pieces.specs.Calls.{Call, rows, s_words, cell_words, table_words, finishing, run}
 use Rattle.pieces.specs.Whole.{Circuit, columns_of}
 use Rattle.columns.specs.Intake.{labels_of, store_of}
 use Rattle.claim.specs.Chain.{answer}
 use Rattle.claim.specs.Statement.{product, Stands, setting_for, kept}
-use Rattle.claim.proofs.Theorem.{claim}
 use Rattle.cases.specs.Columns.{setting_with, old, one, nop, two, p9_calls, p9_refused}
 use Rattle.cases.specs.Listed.{parameters, gates, tree}
 use Rattle.cases.specs.SaidOfListing.{circuit₈, x₈, calls₈}

@@ -1,8 +1,10 @@
 -- The number of an unpadded circuit, cause by cause, as the code asks.
 --
--- Main statements: `pad_range`, `pad_planning`, `pad_21`, `pad_22`, `pad_own`; `Reached` (the length by the code's bound), `reached`; `filler_here`, `filler_next`, `filler_none`.
-use Rattle.std.specs.Prelude.{◌≡◌, ◌≢◌, List, length, leb, ltb}
-use Rattle.std.proofs.Math.Path.{sym, ap}
+-- Main statements: `pad_range`, `pad_planning`, `pad_21`, `pad_22`, `pad_own`; `Reached` (the length by the code's bound), `reached`; `filler_here`, `filler_next`, `filler_none`; `refusal`, `found_gate`.
+use Rattle.std.specs.Prelude.{◌≡◌, ◌≢◌, List, length, leb, ltb, Result, Option, Some, IfSome}
+use Rattle.std.specs.Result.{IsErrAnd}
+use Rattle.std.proofs.lemmas.Result.{err_from_is_err_and}
+use Rattle.std.proofs.Math.Path.{sym, ap, subst}
 use Rattle.std.proofs.Common.{◌∙◌, not-suc-le-zero}
 use Rattle.std.proofs.Math.Bool.{true}
 use Prim.Native.Nat.{ℕ, ◌+◌, ◌^◌, ◌≤◌, ◌<◌, max, zero, suc, ◌-◌}
@@ -13,6 +15,8 @@ use borrow.Author.Tests.{eq-eqb, le-leb, le-ltb, lt-leb, lt-ltb, ne_eqb}
 use Rattle.base.specs.Exponent.{exponent}
 use Rattle.base.specs.Firsts.{first-none, first_found}
 use Rattle.base.specs.Pick.{pick, pick_yes, pick_no}
+use Rattle.refusal.specs.declared.Refusal.{Refusal}
+use Rattle.refusal.specs.Refusal.{refusal_number}
 use Rattle.labels.specs.Ranges.{longest_trace, trace_fits}
 use Rattle.parameters.specs.Parameters.{parameters_at}
 use Rattle.selector.specs.Gates.{kind_of}
@@ -25,7 +29,7 @@ use Rattle.columns.specs.Sections.{unpadded_number, unpadded_call}
 use Rattle.claim.specs.Statement.{setting_for}
 use Rattle.listing.specs.Listing.{Words}
 use Rattle.padding.specs.Padding.{given, least, length_of, with_trace, filler_from, filler_of, planning_number, pad_number}
-use Rattle.padding.specs.Judging.{Capped, Judging}
+use Rattle.padding.specs.Judging.{Capped, Judging, gate_or}
 use Rattle.padding.specs.declared.judging.Judged.{Judged}
 use Rattle.padding.specs.Lengths.{one_in_range, power_fits, power_in_range, power_passes}
 use Rattle.padding.specs.Traces.{other_number}
@@ -152,6 +156,14 @@ module _ (w : Words) where
           ∙ pick_yes (ltb (filler_of gs) (count_of_gates gs)) _ 21 (lt-ltb (filler_of gs) (count_of_gates gs) q)
           ∙ pick_yes (leb (length_of w) longest_trace) _ 22 (le-leb (length_of w) longest_trace l))
 
--- a refusal
-pub refusal : (w : Words) (r : Judged) (n : ℕ) → r.number ≡ n → n ≢ 0 → pad_number w ≡ n → Judging w r
-refusal w r n e d p = record { number_is = e ∙ sym p; length_is = λ z. absurd (d (sym e ∙ z)); gate_is = λ z. absurd (d (sym e ∙ z)) }
+-- a refusal, and one that `?` passes up
+pub refusal : (w : Words) (r : Result Judged Refusal) (e : Refusal) → IsErrAnd r (λ d. d ≡ e) → pad_number w ≡ refusal_number e → Judging w r
+refusal w r e h q = let p = err_from_is_err_and r h in rw (p.1, p.2) (record { number_is = sym q; judged_is = tt })
+
+-- the gate that was found
+pub found_gate : (gs : List ℕ) (o : Option ℕ) (g : ℕ) → o ≡ Some g → gate_or (count_of_gates gs) o ≡ filler_of gs → IfSome o (λ k. k < count_of_gates gs)
+    → (g ≡ filler_of gs) × (filler_of gs < count_of_gates gs)
+found_gate gs o g e v l =
+    let is : g ≡ filler_of gs = sym (ap (gate_or (count_of_gates gs)) e) ∙ v in
+    let low : g < count_of_gates gs = subst (λ (x : Option ℕ). IfSome x (λ k. k < count_of_gates gs)) e l in
+    (is, omega (arith, is, low))

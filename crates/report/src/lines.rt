@@ -4,12 +4,14 @@ ghost use Rattle.std.specs.Prelude.{◌≡◌, List, ◌++◌, ℕ, ◌*◌, ◌
 ghost use Rattle.octets.specs.Text.{sink, put, field, fields};
 ghost use Rattle.base.specs.Digits.{Spelled};
 ghost use Rattle.tree.specs.Plan.{plan_fault, plan_selector};
+ghost use Rattle.tree.specs.Answers.{selection_told};
 ghost use Rattle.tree.specs.Selection.{selector_of};
 ghost use Rattle.report.specs.Report.{newline, plan_line, digit, digits_of, steps_field, selector_field, path_line, path_lines, column_lines, ids_line};
 
 use octets::text::{put_bytes, put_field, put_fields};
+use refusal::Refusal;
+use tree::paths::Path;
 use tree::plan::Plan;
-use tree::selection::Selection;
 
 // D, K and F.
 pub(crate) fn put_plan(plan: Plan, at: usize, out: &mut [u8]) -> usize
@@ -57,13 +59,13 @@ fn put_steps(bits: u64, steps: u64, at: usize, out: &mut [u8]) -> usize
 }
 
 // The field of what is answered of a gate: its path, or that it has no selector.
-fn put_selection(selection: Selection, at: usize, out: &mut [u8]) -> usize
-    ensures { sink out.new result ≡ put (sink out.old at) (selector_field (selector_of selection)) }
+fn put_selection(answer: Result<Option<Path>, Refusal>, at: usize, out: &mut [u8]) -> usize
+    ensures { sink out.new result ≡ put (sink out.old at) (selector_field (selector_of (selection_told answer))) }
 {
-    match selection {
-        Selection::Path { bits, length } => put_steps(bits, length, at, out),
-        Selection::NoSelector => put_bytes(b" none", at, out),
-        Selection::UnknownGate => at,
+    match answer {
+        Ok(Some(path)) => put_steps(path.bits, path.length, at, out),
+        Ok(None) => put_bytes(b" none", at, out),
+        Err(_) => at,
     }
 }
 
@@ -72,11 +74,9 @@ fn put_path(plan: Plan, gate: u64, at: usize, out: &mut [u8]) -> usize
     requires { (plan_fault plan ≡ 0) × (gate < plan.gate_count) }
     ensures { sink out.new result ≡ put (sink out.old at) (path_line (plan_selector plan) gate) }
 {
-    let path = plan.path(gate);
     let a = put_bytes(b"path", at, out);
     let b = put_field(gate, a, out);
-    let selection = path.selection;
-    let c = put_selection(selection, b, out);
+    let c = put_selection(plan.path(gate), b, out);
     put_bytes(b"\n", c, out)
 }
 
@@ -126,11 +126,11 @@ pub(crate) fn put_columns(
 pub(crate) fn put_ids(plan: Plan, at: usize, out: &mut [u8]) -> usize
     ensures { sink out.new result ≡ put (sink out.old at) (ids_line plan) }
 {
-    let id = plan.table_id();
+    let id = plan.table_id().unwrap_or(None);
     let a = put_bytes(b"ids", at, out);
-    if 0 < id.count {
-        let b = put_field(id.index, a, out);
-        return put_bytes(b"\n", b, out);
-    }
-    put_bytes(b"\n", a, out)
+    let b = match id {
+        Some(index) => put_field(index, a, out),
+        None => a,
+    };
+    put_bytes(b"\n", b, out)
 }

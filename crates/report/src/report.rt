@@ -75,7 +75,7 @@ pub fn put_report(
 ) -> usize
     ensures { sink out.new result ≡ put (sink out.old 0) (report_of plan constants.now copies.now tables.now) }
 {
-    if plan.fault() != 0 {
+    if plan.fault().is_err() {
         return put_refused(19, out);
     }
     if columns_there(plan, constants, copies, tables) {

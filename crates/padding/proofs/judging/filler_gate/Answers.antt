@@ -1,6 +1,6 @@
 -- `judging::filler_gate` meets its contract: none of the gates that were passed is of kind 1.
 use native.Mathlib.Nat.{div-mul-le_self}
-use Rattle.std.proofs.Common.{◌≡◌, sym, ◌∙◌, ap, arith, ℕ, ◌+◌, ◌-◌, length}
+use Rattle.std.proofs.Common.{◌≡◌, sym, ◌∙◌, ap, arith, ℕ, ◌+◌, ◌-◌, ◌<◌, length}
 use Rattle.selector.specs.Refusals.{count_of_gates}
 use Rattle.padding.specs.Padding.{filler_from}
 use Rattle.padding.proofs.JudgingLaws.{filler_here, filler_next, filler_none}
@@ -25,7 +25,8 @@ pub returns-then-gates-g-eq1 : goal.returns-then-gates-g-eq1
 returns-then-gates-g-eq1 c =
     let l = c.loop-g in
     let gs = c.args.gates.now in
-    sym (l.invariant.1 ∙ filler_here (count_of_gates gs - l.g) l.g gs (omega (arith, c.loop-g-test)) c.if-gates-g-eq1.true)
+    let low : l.g < count_of_gates gs = omega arith in
+    record { value = sym (l.invariant.1 ∙ filler_here (count_of_gates gs - l.g) l.g gs (omega arith) c.if-gates-g-eq1.true); listed = low }
 
 pub loop-g-preserved : goal.loop-g-preserved
 loop-g-preserved c =
@@ -39,4 +40,4 @@ returns c =
     let l = c.loop-g in
     let gs = c.args.gates.now in
     let e : l.g ≡ count_of_gates gs = omega arith in
-    sym (l.invariant.1 ∙ filler_none (count_of_gates gs - l.g) l.g gs (omega arith) ∙ e)
+    record { value = sym (l.invariant.1 ∙ filler_none (count_of_gates gs - l.g) l.g gs (omega arith) ∙ e); listed = tt }

@@ -6,4 +6,3 @@ use Rattle.padding.proofs.judging.filler_gate.Given as goal
 
 abbrev pub invariant-loop-g : goal.invariant-loop-g
 invariant-loop-g l = (l.g ≤ count_of_gates l.gates) × (filler_of l.gates ≡ filler_from (count_of_gates l.gates - l.g) l.g l.gates)
-

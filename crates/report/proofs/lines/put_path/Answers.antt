@@ -5,22 +5,14 @@ use Rattle.octets.specs.TextLaws.{then}
 use Rattle.tree.specs.Plan.{plan_selector}
 use Rattle.tree.specs.Selection.{selector_of}
 use Rattle.tree.specs.SoundLaws.{path_answers}
-use Rattle.tree.specs.Answers.{PathAnswer}
+use Rattle.tree.specs.Answers.{selection_told}
 use Rattle.report.specs.Report.{newline, path_name, selector_field}
 use Rattle.report.proofs.lines.put_path.Goals as goal
-
--- LEFT slice-aggregate-put-bytes : tie.Need-slice-aggregate-put-bytes
--- LEFT slice-aggregate-put-bytes c = search rules
-
--- LEFT slice-aggregate-put-bytes-2 : tie.Need-slice-aggregate-put-bytes-2
--- LEFT slice-aggregate-put-bytes-2 c = search rules
 
 pub returns : goal.returns
 returns c =
     let a = c.args in
-    let answer = c.path-path in
-    let is : selector_of answer.result.selection ≡ plan_selector a.plan a.gate =
-    ap (λ (r : PathAnswer). selector_of r.selection) answer.ensures ∙ path_answers a.plan c.requires.0 a.gate in
+    let is : selector_of (selection_told c.path.result) ≡ plan_selector a.plan a.gate = ap selector_of c.path.ensures.selection ∙ path_answers a.plan c.requires.0 a.gate in
     then (sink a.out.now a.at) _ _ (path_name ++ field a.gate ++ selector_field (plan_selector a.plan a.gate)) newline
     (then (sink a.out.now a.at) _ _ (path_name ++ field a.gate) (selector_field (plan_selector a.plan a.gate))
     (then (sink a.out.now a.at) _ _ path_name (field a.gate)

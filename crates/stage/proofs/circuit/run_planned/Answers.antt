@@ -1,41 +1,58 @@
--- `stage::circuit::run_planned` meets its contract: the number first; then opening, and the calls after it.
-use Rattle.std.proofs.Common.{sym, ap, ◌∙◌}
-use Rattle.columns.specs.Intake.{store_of}
+-- `stage::circuit::run_planned` meets its contract: the number first; then opening, which that test covers, and the calls after it.
+use Rattle.std.proofs.Common.{◌≡◌, refl, sym, ap, ◌∙◌}
+use Rattle.refusal.specs.Refusal.{refusal_number}
+use Rattle.refusal.proofs.Passing.{passed_up, refusal_nonzero}
+use Rattle.columns.specs.Intake.{setting_of, store_of, open_answer}
+use Rattle.columns.specs.Sections.{sections_number}
+use Rattle.columns.specs.declared.intake.Intake.{Intake}
 use Rattle.claim.specs.Chain.{Kept, chained}
-use Rattle.claim.specs.Keeping.{by_opening}
+use Rattle.claim.specs.Keeping.{keeping, by_opening}
 use Rattle.stage.specs.Circuit.{calls}
-use Rattle.stage.proofs.CircuitLaws.{planned_refused, planned-taken}
+use Rattle.stage.proofs.CircuitLaws.{planned_refused, planned-taken, opened}
 use Rattle.stage.proofs.circuit.run_planned.Goals as goal
 
-pub returns-then-number-ne0 : goal.returns-then-number-ne0
-returns-then-number-ne0 c =
+pub returns-in_err-sections_number : goal.returns-in_err-sections_number
+returns-in_err-sections_number c =
     let a = c.args in
     let b = store_of a.constants.now a.copies.now a.scratch.now a.tables.now in
-    let e = c.sections_number-number.ensures in
-    record { value = e; tables_after = planned_refused a.plan a.rows.now a.s_words.now a.cells.now a.table_words.now b (λ z. c.if-number-ne0.true (e ∙ z)) }
+    let r = c.in_err-sections_number.field-0.0 in
+    let n : refusal_number r ≡ sections_number (setting_of a.plan) b a.rows.now a.s_words.now a.cells.now a.table_words.now = c.in_err-sections_number.ensures in
+    let f = c.from_residual in
+    record {
+      value = passed_up f.result r f.ensures.1 ∙ n;
+      tables_after = planned_refused a.plan a.rows.now a.s_words.now a.cells.now a.table_words.now b (λ z. refusal_nonzero r (n ∙ z));
+    }
+
+-- no opening that the test accepted is refused
+pub returns-in_err-state : goal.returns-in_err-state
+returns-in_err-state c =
+    let a = c.args in
+    let b = store_of a.constants.now a.copies.now a.scratch.now a.tables.now in
+    let o = opened a.plan a.rows.now a.s_words.now a.cells.now a.table_words.now b (sym c.in_ok-sections_number.ensures) in
+    absurd (refusal_nonzero c.in_err-state.field-0.0 (c.in_err-state.ensures.value ∙ o))
 
 pub shape_of-constants : goal.shape_of-constants
-shape_of-constants c = c.give_sections.auto.constants ∙ c.open-opened.auto.constants
+shape_of-constants c = c.give_sections.auto.constants ∙ c.open.auto.constants
 
 pub shape_of-copies : goal.shape_of-copies
-shape_of-copies c = c.give_sections.auto.copies ∙ c.open-opened.auto.copies
+shape_of-copies c = c.give_sections.auto.copies ∙ c.open.auto.copies
 
 pub shape_of-scratch : goal.shape_of-scratch
-shape_of-scratch c = c.give_sections.auto.scratch ∙ c.open-opened.auto.scratch
+shape_of-scratch c = c.give_sections.auto.scratch ∙ c.open.auto.scratch
 
 pub shape_of-tables : goal.shape_of-tables
-shape_of-tables c = c.give_sections.auto.tables ∙ c.open-opened.auto.tables
+shape_of-tables c = c.give_sections.auto.tables ∙ c.open.auto.tables
 
 pub returns : goal.returns
 returns c =
     let a = c.args in
     let q = a.plan in
     let b = store_of a.constants.now a.copies.now a.scratch.now a.tables.now in
-    let n = c.sections_number-number.ensures in
-    let z = sym n ∙ c.if-number-ne0.false in
-    let o = c.open-opened in
-    let s = o.result.state in
+    let n = c.in_ok-sections_number.ensures in
+    let o = c.in_ok-state.ensures in
     let ks = calls a.rows.now a.s_words.now a.cells.now a.table_words.now in
-    let h = by_opening q b o.result o.new.constants o.new.copies o.new.scratch o.new.tables o.ensures.value o.ensures.tables_after in
-    let g = c.give_sections.ensures in
-    record { value = sym c.if-number-ne0.false ∙ n; tables_after = g ∙ ap (λ (k : Kept). (chained ks k).store) h ∙ planned-taken q a.rows.now a.s_words.now a.cells.now a.table_words.now b z }
+    let x = c.open.new in
+    let state_is : keeping c.in_ok-state.state x.constants x.copies x.scratch x.tables ≡ keeping (open_answer q b).state x.constants x.copies x.scratch x.tables =
+    ap (λ (s : Intake). keeping s x.constants x.copies x.scratch x.tables) o.state_value in
+    let h = state_is ∙ by_opening q b (open_answer q b) x.constants x.copies x.scratch x.tables refl o.tables_after in
+    record { value = n; tables_after = c.give_sections.ensures ∙ ap (λ (k : Kept). (chained ks k).store) h ∙ planned-taken q a.rows.now a.s_words.now a.cells.now a.table_words.now b (sym n) }
