@@ -14,7 +14,7 @@ ghost use Rattle.selector.specs.Refusals.{count_of_gates};
 ghost use Rattle.padding.specs.Judging.{Capped, Judging, gate_or, six_of};
 
 use base::{greater, power_above};
-use columns::sections::unpadded_number;
+use columns::sections::{Sections, unpadded_number};
 use labels::LONGEST_TRACE;
 use parameters::parameters::{Parameters, parameters_at};
 use refusal::Refusal;
@@ -108,6 +108,12 @@ pub(crate) fn judge(
     if LONGEST_TRACE < least {
         return Err(Refusal::TooLong);
     }
-    unpadded_number(plan, given, gate, rows, s_words, cells, tables)?;
+    let sections = Sections {
+        rows,
+        s_words,
+        cells,
+        tables,
+    };
+    unpadded_number(plan, given, gate, sections)?;
     Ok(Judged { length, gate })
 }

@@ -10,7 +10,7 @@ ghost use Rattle.stage.specs.Circuit.{calls, staged_by, stage_answer, stage_left
 ghost use Rattle.stage.specs.Planned.{planned_left};
 
 use columns::intake::Intake;
-use columns::sections::sections_number;
+use columns::sections::{Sections, sections_number};
 use columns::take::{Counts, take_cells, take_finish, take_rows, take_s_words, take_tables};
 use parameters::parameters::Parameters;
 use refusal::Refusal;
@@ -60,17 +60,13 @@ fn run_planned(
     ensures value { answer_number result ≡ sections_number (setting_of plan) (store_of constants.old copies.old scratch.old tables.old) rows.now s_words.now cells.now table_words.now }
     ensures tables_after { store_of constants.new copies.new scratch.new tables.new ≡ planned_left plan rows.now s_words.now cells.now table_words.now (store_of constants.old copies.old scratch.old tables.old) }
 {
-    sections_number(
-        plan,
+    let sections = Sections {
         rows,
         s_words,
         cells,
-        table_words,
-        constants,
-        copies,
-        scratch,
-        tables,
-    )?;
+        tables: table_words,
+    };
+    sections_number(plan, sections, constants, copies, scratch, tables)?;
     let state = Intake::open(plan, constants, copies, scratch, tables)?;
     let used = state.used;
     give_sections(
