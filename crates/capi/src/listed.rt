@@ -6,7 +6,7 @@ ghost use Rattle.capi.specs.Listed.{run_call, run_left, run_plan};
 
 use encoding::encoding::{PLAN_WORDS, encode_plan};
 use listing::cursor::sections_of;
-use refusal::Refusal;
+use refusal::{Refusal, outcome};
 use stage::listed::run_listing;
 use tree::plan::Plan;
 
@@ -31,5 +31,5 @@ pub fn kinchoyu_run(
     }
     let answer = run_listing(listing, constants, copies, scratch, tables);
     encode_plan(answer.unwrap_or(Plan::zero()), plan);
-    answer.map(|_| ())
+    outcome(&answer)
 }

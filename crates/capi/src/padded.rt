@@ -4,7 +4,7 @@ ghost use Rattle.refusal.specs.Refusal.{answer_number};
 ghost use Rattle.capi.specs.Padded.{pad_call, pad_count, pad_out};
 
 use padding::padding::pad;
-use refusal::Refusal;
+use refusal::{Refusal, outcome};
 
 // Reads a listing, writes the padded one to the front of `out` and its number of words to `count`. 20,
 // then the circuit's own numbers, then 10 for `out` or `count`. A refusal leaves `out` as it was and a
@@ -15,9 +15,9 @@ pub fn kinchoyu_pad(listing: &[u64], out: &mut [u64], count: &mut [u64]) -> Resu
     ensures count_after { count.new ≡ pad_count listing.now out.old count.old }
 {
     if count.is_empty() {
-        return pad(listing, &mut out[..0]).map(|_| ());
+        return outcome(&pad(listing, &mut out[..0]));
     }
     let answer = pad(listing, out);
     count[0] = answer.unwrap_or(0);
-    answer.map(|_| ())
+    outcome(&answer)
 }
