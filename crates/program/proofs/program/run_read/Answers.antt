@@ -4,15 +4,21 @@ use Rattle.std.proofs.lemmas.List.{length-replicate}
 use Rattle.octets.specs.Text.{sink, put}
 use Rattle.octets.specs.Words.{words_of, words_read}
 use Rattle.octets.specs.WordLaws.{words_whole}
-use Rattle.program.specs.Program.{printed}
+use Rattle.report.specs.Report.{refused_line}
+use Rattle.program.specs.Program.{printed, program_text}
 use Rattle.program.specs.ProgramLaws.{text-long, text-odd, text-words}
 use Rattle.program.proofs.program.run_read.Goals as goal
+use Rattle.program.proofs.program.run_read.Goals.{then-bytes-gt-MOST_BYTES-via-then-bytes-gt-MOST_BYTES, then-bytes-gt-MOST_BYTES-via-else-bytes-gt-MOST_BYTES+then-bytes-ne0}
 
 pub returns-then-bytes-gt-MOST_BYTES : goal.returns-then-bytes-gt-MOST_BYTES
-returns-then-bytes-gt-MOST_BYTES c = c.put_refused.ensures ∙ ap (put (sink c.args.out.now 0)) (text-long c.args.bytes.now c.if-bytes-gt-MOST_BYTES.true)
-
-pub returns-then-bytes-ne0 : goal.returns-then-bytes-ne0
-returns-then-bytes-ne0 c = c.put_refused-then-bytes-ne0.ensures ∙ ap (put (sink c.args.out.now 0)) (text-odd c.args.bytes.now (omega (arith, c.if-bytes-gt-MOST_BYTES.false)) c.if-bytes-ne0.true)
+returns-then-bytes-gt-MOST_BYTES c =
+    let bytes = c.args.bytes.now in
+    let text : refused_line 20 ≡ program_text bytes =
+    elim c.then-bytes-gt-MOST_BYTES.branch [
+      | then-bytes-gt-MOST_BYTES-via-then-bytes-gt-MOST_BYTES w ↦ text-long bytes w.if-bytes-gt-MOST_BYTES.true
+      | then-bytes-gt-MOST_BYTES-via-else-bytes-gt-MOST_BYTES+then-bytes-ne0 w ↦ text-odd bytes (omega (arith, w.if-bytes-gt-MOST_BYTES.false)) w.if-bytes-ne0.true
+    ] in
+    c.put_refused.ensures ∙ ap (put (sink c.args.out.now 0)) text
 
 pub slice_bounds-run_words-end : goal.slice_bounds-run_words-end
 slice_bounds-run_words-end c =
