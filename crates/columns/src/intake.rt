@@ -1,10 +1,10 @@
 // The intake: 01's state between calls, and the calls. Each call is lent just the buffers that it may
 // write. A refusal leaves the state as it was and writes nothing.
-ghost use Rattle.std.specs.Prelude.{◌≡◌, IfOk};
-ghost use Rattle.refusal.specs.Refusal.{answer_number};
+ghost use Rattle.std.specs.Prelude.{◌≡◌};
+ghost use Rattle.refusal.specs.Refusal.{answer_number, answer_or};
 ghost use Rattle.pieces.specs.Setting.{cols};
 ghost use Rattle.pieces.specs.Opening.{start_state};
-ghost use Rattle.columns.specs.Intake.{taken_with, with_state, store_of, open_answer, open_left, rows_answer, rows_left, s_words_answer, s_words_left, cells_answer, cells_left, tables_answer, tables_left, finish_answer, finish_left};
+ghost use Rattle.columns.specs.Intake.{taken_with, with_state, zero_intake, store_of, open_answer, open_left, rows_answer, rows_left, s_words_answer, s_words_left, cells_answer, cells_left, tables_answer, tables_left, finish_answer, finish_left};
 
 use crate::opening::open_parts;
 use crate::take::{Counts, OPEN, take_cells, take_finish, take_rows, take_s_words, take_tables};
@@ -57,7 +57,7 @@ impl Intake {
         tables: &mut [u64],
     ) -> Result<Intake, Refusal>
         ensures value { answer_number result ≡ (open_answer plan (store_of constants.old copies.old scratch.old tables.old)).number }
-        ensures state_value { IfOk result (λ state. state ≡ (open_answer plan (store_of constants.old copies.old scratch.old tables.old)).state) }
+        ensures state_value { answer_or zero_intake result ≡ (open_answer plan (store_of constants.old copies.old scratch.old tables.old)).state }
         ensures tables_after { store_of constants.new copies.new scratch.new tables.new ≡ open_left plan (store_of constants.old copies.old scratch.old tables.old) }
     {
         open_parts(plan.parts(), constants, copies, scratch, tables)?;
