@@ -4,7 +4,7 @@ ghost use Rattle.refusal.specs.Refusal.{answer_number};
 ghost use Rattle.writer.specs.Hand.{hand_left, hand_number, handed};
 
 use crate::put::put_words;
-use refusal::{Refusal, answer_number};
+use refusal::Refusal;
 
 // Words go to the front of a result slice; one that is too short keeps all its words.
 pub fn hand(words: &[u64], out: &mut [u64])
@@ -24,15 +24,4 @@ pub fn hand_out(words: &[u64], out: &mut [u64]) -> Result<(), Refusal>
     }
     hand(words, out);
     Ok(())
-}
-
-// Words go to the front of a result slice unless the call is refused. Its number, then 10.
-pub fn hand_unless(number: u64, words: &[u64], out: &mut [u64]) -> u64
-    ensures value { result ≡ hand_number number words.now out.old }
-    ensures out_after { out.new ≡ hand_left number words.now out.old }
-{
-    if number != 0 {
-        return number;
-    }
-    answer_number(&hand_out(words, out))
 }
