@@ -11,23 +11,10 @@ end ws i u = omega (arith, u.two, u.fits)
 pub loop-i-init : goal.loop-i-init
 loop-i-init c = (omega arith, summing_begin c.args.tables.now c.requires)
 
-pub overflow_add-n : goal.overflow_add-n
-overflow_add-n c =
-    let here : Uncut table_size c.args.tables.now c.loop-i.i = let l = c.loop-i in summing_here c.args.tables.now l.sum l.i l.invariant.1 (omega (arith, c.loop-i-test)) in
-    omega (arith, (here).two)
-
-pub offset_bounds-tables-i : goal.offset_bounds-tables-i
-offset_bounds-tables-i c =
-    let here : Uncut table_size c.args.tables.now c.loop-i.i = let l = c.loop-i in summing_here c.args.tables.now l.sum l.i l.invariant.1 (omega (arith, c.loop-i-test)) in
-    omega (arith, (here).two)
-
 pub bounds-tables-i : goal.bounds-tables-i
 bounds-tables-i c =
     let here : Uncut table_size c.args.tables.now c.loop-i.i = let l = c.loop-i in summing_here c.args.tables.now l.sum l.i l.invariant.1 (omega (arith, c.loop-i-test)) in
     omega (arith, (here).two)
-
-pub overflow_sub-sum : goal.overflow_sub-sum
-overflow_sub-sum c = omega (arith, c.loop-i.invariant.0)
 
 pub returns-then-sum-n : goal.returns-then-sum-n
 returns-then-sum-n c =
@@ -37,19 +24,6 @@ returns-then-sum-n c =
     let p = summing_passed ws l.sum l.i l.invariant.1 (here) in
     let t = c.if-sum-n.true in
     record { same = λ h. absurd (omega (arith, h, p, t, l.invariant.0)); above = λ h. omega arith; small = omega arith }
-
-pub overflow_add-sum : goal.overflow_add-sum
-overflow_add-sum c = omega (arith, c.loop-i.invariant.0, c.if-sum-n.false)
-
-pub offset_bounds-tables-i-in-loop-i : goal.offset_bounds-tables-i-in-loop-i
-offset_bounds-tables-i-in-loop-i c =
-    let here : Uncut table_size c.args.tables.now c.loop-i.i = let l = c.loop-i in summing_here c.args.tables.now l.sum l.i l.invariant.1 (omega (arith, c.loop-i-test)) in
-    omega (arith, (here).two)
-
-pub bounds-tables-i-in-loop-i : goal.bounds-tables-i-in-loop-i
-bounds-tables-i-in-loop-i c =
-    let here : Uncut table_size c.args.tables.now c.loop-i.i = let l = c.loop-i in summing_here c.args.tables.now l.sum l.i l.invariant.1 (omega (arith, c.loop-i-test)) in
-    omega (arith, (here).two)
 
 pub overflow_mul-i : goal.overflow_mul-i
 overflow_mul-i c =
@@ -65,11 +39,6 @@ pub overflow_add-i-in-loop-i : goal.overflow_add-i-in-loop-i
 overflow_add-i-in-loop-i c =
     let here : Uncut table_size c.args.tables.now c.loop-i.i = let l = c.loop-i in summing_here c.args.tables.now l.sum l.i l.invariant.1 (omega (arith, c.loop-i-test)) in
     omega (arith, end c.args.tables.now c.loop-i.i (here))
-
-pub loop-i-smaller : goal.loop-i-smaller
-loop-i-smaller c =
-    let here : Uncut table_size c.args.tables.now c.loop-i.i = let l = c.loop-i in summing_here c.args.tables.now l.sum l.i l.invariant.1 (omega (arith, c.loop-i-test)) in
-    omega (arith, c.loop-i-test, end c.args.tables.now c.loop-i.i (here))
 
 pub loop-i-preserved : goal.loop-i-preserved
 loop-i-preserved c =

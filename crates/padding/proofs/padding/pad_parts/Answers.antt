@@ -168,16 +168,6 @@ overflow_sub-tables_at-2 c =
     let tables-long : length c.part_of-tables.result.now ≡ length w.tables = ap length c.part_of-tables.ensures in
     omega (arith, long, tables-long)
 
-pub offset_bounds-words-tables_at : goal.offset_bounds-words-tables_at
-offset_bounds-words-tables_at c =
-    let a = c.args in
-    let ws = a.words.now in
-    let w = words_at ws a.sections in
-    let q = read_sound ws w c.requires in
-    let long : length ws ≡ 6 + parameter_words + length w.gates + length w.rows + length w.s_words + length w.cells + length w.tables = omega (arith, ap length q.1, written-long w, q.0.eight-words) in
-    let tables-long : length c.part_of-tables.result.now ≡ length w.tables = ap length c.part_of-tables.ensures in
-    omega (arith, long, tables-long)
-
 pub bounds-words-tables_at : goal.bounds-words-tables_at
 bounds-words-tables_at c =
     let a = c.args in
@@ -220,38 +210,6 @@ write_padded-requires c =
     let room : length new ≤ length o = omega (arith, total, h) in
     let f : Fitting (length_of w) (length (rows_of w.rows)) w o = record { small = small; s-words_are = k.0; cells_are = k.1; room = omega (arith, room_is w q.0 k.0 k.1, room) } in
     fitting_as (length_of w) (length (rows_of w.rows)) _ _ w _ o judged.judged_is.0 m same f
-
-pub overflow_add-result : goal.overflow_add-result
-overflow_add-result c =
-    let a = c.args in
-    let ws = a.words.now in
-    let w = words_at ws a.sections in
-    let q = read_sound ws w c.requires in
-    let long : length ws ≡ 6 + parameter_words + length w.gates + length w.rows + length w.s_words + length w.cells + length w.tables = omega (arith, ap length q.1, written-long w, q.0.eight-words) in
-    let m_read = get_or ws (2 + parameter_words + length c.part_of-gates.result.now) 0 in
-    let m : m_read ≡ length (rows_of w.rows) =
-    ap (λ (n : ℕ). get_or ws (2 + parameter_words + n) 0) (ap length c.part_of-gates.ensures)
-    ∙ ap (λ (v : List ℕ). get_or v (2 + parameter_words + length w.gates) 0) q.1
-    ∙ count_of_rows w q.0.eight-words in
-    let parts = six_of c.part_of-eight.result.now c.part_of-gates.result.now c.part_of-rows.result.now c.part_of-s_words.result.now c.part_of-cells.result.now c.part_of-tables.result.now in
-    let same : parts ≡ w = six_is w _ _ _ _ _ _ c.part_of-eight.ensures c.part_of-gates.ensures c.part_of-rows.ensures c.part_of-s_words.ensures c.part_of-cells.ensures c.part_of-tables.ensures in
-    let judged : Judging w (Ok c.in_ok-judged.judged) = subst (λ (v : Words). Judging v (Ok c.in_ok-judged.judged)) same c.in_ok-judged.ensures in
-    let new = written (padded w) in
-    let o = a.out.now in
-    let zero : pad_number w ≡ 0 = sym judged.number_is in
-    let g = good w zero in
-    let small = small_of w g q.0.eight-words in
-    -- as many words as are asked for
-    let more : c.words_more-more.result ≡ more_words (length_of w) (length (rows_of w.rows)) w.parameters =
-    c.words_more-more.ensures
-    ∙ ap (λ (n : ℕ). more_words n m_read c.part_of-eight.result.now) judged.judged_is.0
-    ∙ ap (λ (n : ℕ). more_words (length_of w) n c.part_of-eight.result.now) m
-    ∙ ap (more_words (length_of w) (length (rows_of w.rows))) c.part_of-eight.ensures in
-    let k = good_columns w g in
-    let total : length new ≡ length ws + c.words_more-more.result = omega (arith, padded-long w q.0 k.0 k.1, more, ap length q.1) in
-    let h = ltb-false (length o) (length ws + c.words_more-more.result) (sym c.too_short.ensures ∙ c.if-too_short.false) in
-    let room : length new ≤ length o = omega (arith, total, h) in
-    omega (arith, total, room)
 
 pub returns : goal.returns
 returns c =

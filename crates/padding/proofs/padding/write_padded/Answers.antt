@@ -4,7 +4,6 @@ use Rattle.parameters.specs.Parameters.{parameter_words}
 use Rattle.selector.specs.Gates.{gate_words}
 use Rattle.pieces.specs.Cells.{placeholder}
 use Rattle.writer.specs.Put.{put}
-use Rattle.writer.specs.PutLaws.{put-length}
 use Rattle.padding.specs.Padding.{fillers, stretched}
 use Rattle.listing.specs.Listing.{Words}
 use Rattle.padding.specs.Judging.{six_of}
@@ -89,84 +88,6 @@ next : (s : Given) (front b : List ℕ) (r r' : ℕ) (x y : List ℕ) → Done s
     → Done s (front ++ b) r' y
 next s front b r r' x y d e p h =
     (omega (arith, d.0, e, length-append front b), put-after 0 front b s.out x y r d.1 (omega (arith, d.0)) p (omega (arith, h)))
-
-as_long : (s : Given) (front : List ℕ) (r : ℕ) (x : List ℕ) → Done s front r x → length front ≤ length s.out → length x ≡ length s.out
-as_long s front r x d h = ap length d.1 ∙ put-length 0 front s.out (omega (arith, h))
-
-pub put_parameters-at_gates-requires : goal.put_parameters-at_gates-requires
-put_parameters-at_gates-requires c = (c.requires.small.eight-words, omega (arith, c.requires.room))
-
--- ---- the gates
-pub put_counted-at_rows-requires : goal.put_counted-at_rows-requires
-put_counted-at_rows-requires c =
-    let a = c.args in
-    let s : Given = record { long = a.long; gate = a.gate; many = a.many; last = a.last; w = six_of a.eight.now a.gates.now a.rows.now a.s_words.now a.cells.now a.tables.now; out = a.out.now; fits = c.requires } in
-    let f1 = c.put_parameters-at_gates.ensures in
-    let done1 : Done s (F1 s) c.put_parameters-at_gates.result c.put_parameters-at_gates.new.out = (omega (arith, f1.0, l1 s), f1.1) in
-    omega (arith, s.fits.room, l1 s, done1.0, as_long s (F1 s) _ _ done1 (omega (arith, s.fits.room, l1 s)))
-
--- ---- the rows
-pub put_row_section-at_s_words-requires : goal.put_row_section-at_s_words-requires
-put_row_section-at_s_words-requires c =
-    let a = c.args in
-    let s : Given = record { long = a.long; gate = a.gate; many = a.many; last = a.last; w = six_of a.eight.now a.gates.now a.rows.now a.s_words.now a.cells.now a.tables.now; out = a.out.now; fits = c.requires } in
-    let f1 = c.put_parameters-at_gates.ensures in
-    let done1 : Done s (F1 s) c.put_parameters-at_gates.result c.put_parameters-at_gates.new.out = (omega (arith, f1.0, l1 s), f1.1) in
-    let f2 = c.put_counted-at_rows.ensures in
-    let done2 : Done s (F2 s) c.put_counted-at_rows.result c.put_counted-at_rows.new.out = next s (F1 s) (b2 s) _ _ _ _ done1 (omega (arith, f2.0)) f2.1 (omega (arith, s.fits.room, l1 s)) in
-    omega (arith, s.fits.room, l2 s, done2.0, as_long s (F2 s) _ _ done2 (omega (arith, s.fits.room, l2 s)))
-
--- ---- the S words
-pub put_column_section-at_cells-requires : goal.put_column_section-at_cells-requires
-put_column_section-at_cells-requires c =
-    let a = c.args in
-    let s : Given = record { long = a.long; gate = a.gate; many = a.many; last = a.last; w = six_of a.eight.now a.gates.now a.rows.now a.s_words.now a.cells.now a.tables.now; out = a.out.now; fits = c.requires } in
-    let f1 = c.put_parameters-at_gates.ensures in
-    let done1 : Done s (F1 s) c.put_parameters-at_gates.result c.put_parameters-at_gates.new.out = (omega (arith, f1.0, l1 s), f1.1) in
-    let f2 = c.put_counted-at_rows.ensures in
-    let done2 : Done s (F2 s) c.put_counted-at_rows.result c.put_counted-at_rows.new.out = next s (F1 s) (b2 s) _ _ _ _ done1 (omega (arith, f2.0)) f2.1 (omega (arith, s.fits.room, l1 s)) in
-    let f3 = c.put_row_section-at_s_words.ensures in
-    let done3 : Done s (F3 s) c.put_row_section-at_s_words.result c.put_row_section-at_s_words.new.out = next s (F2 s) (b3 s) _ _ _ _ done2 (omega (arith, f3.0, lb3 s)) f3.1 (omega (arith, s.fits.room, l2 s, lb3 s)) in
-    record {
-      height_le_long = (s.fits.small.given_in, s.fits.s-words_are, omega (arith, s.fits.room, l3 s, done3.0, as_long s (F3 s) _ _ done3 (omega (arith, s.fits.room, l3 s))));
-      long_le_longest_trace = (s.fits.small.not-long, s.fits.small.special);
-    }
-
--- ---- the cells
-pub put_column_section-at_tables-requires : goal.put_column_section-at_tables-requires
-put_column_section-at_tables-requires c =
-    let a = c.args in
-    let s : Given = record { long = a.long; gate = a.gate; many = a.many; last = a.last; w = six_of a.eight.now a.gates.now a.rows.now a.s_words.now a.cells.now a.tables.now; out = a.out.now; fits = c.requires } in
-    let f1 = c.put_parameters-at_gates.ensures in
-    let done1 : Done s (F1 s) c.put_parameters-at_gates.result c.put_parameters-at_gates.new.out = (omega (arith, f1.0, l1 s), f1.1) in
-    let f2 = c.put_counted-at_rows.ensures in
-    let done2 : Done s (F2 s) c.put_counted-at_rows.result c.put_counted-at_rows.new.out = next s (F1 s) (b2 s) _ _ _ _ done1 (omega (arith, f2.0)) f2.1 (omega (arith, s.fits.room, l1 s)) in
-    let f3 = c.put_row_section-at_s_words.ensures in
-    let done3 : Done s (F3 s) c.put_row_section-at_s_words.result c.put_row_section-at_s_words.new.out = next s (F2 s) (b3 s) _ _ _ _ done2 (omega (arith, f3.0, lb3 s)) f3.1 (omega (arith, s.fits.room, l2 s, lb3 s)) in
-    let f4 = c.put_column_section-at_cells.ensures in
-    let done4 : Done s (F4 s) c.put_column_section-at_cells.result c.put_column_section-at_cells.new.out = next s (F3 s) (b4 s) _ _ _ _ done3 (omega (arith, f4.0, lb4 s)) f4.1 (omega (arith, s.fits.room, l3 s, lb4 s)) in
-    record {
-      height_le_long = (s.fits.small.given_in, s.fits.cells_are, omega (arith, s.fits.room, l4 s, done4.0, as_long s (F4 s) _ _ done4 (omega (arith, s.fits.room, l4 s))));
-      long_le_longest_trace = (s.fits.small.not-long, s.fits.small.copied);
-    }
-
--- ---- the tables
-pub put_counted-requires : goal.put_counted-requires
-put_counted-requires c =
-    let a = c.args in
-    let s : Given = record { long = a.long; gate = a.gate; many = a.many; last = a.last; w = six_of a.eight.now a.gates.now a.rows.now a.s_words.now a.cells.now a.tables.now; out = a.out.now; fits = c.requires } in
-    let f1 = c.put_parameters-at_gates.ensures in
-    let done1 : Done s (F1 s) c.put_parameters-at_gates.result c.put_parameters-at_gates.new.out = (omega (arith, f1.0, l1 s), f1.1) in
-    let f2 = c.put_counted-at_rows.ensures in
-    let done2 : Done s (F2 s) c.put_counted-at_rows.result c.put_counted-at_rows.new.out = next s (F1 s) (b2 s) _ _ _ _ done1 (omega (arith, f2.0)) f2.1 (omega (arith, s.fits.room, l1 s)) in
-    let f3 = c.put_row_section-at_s_words.ensures in
-    let done3 : Done s (F3 s) c.put_row_section-at_s_words.result c.put_row_section-at_s_words.new.out = next s (F2 s) (b3 s) _ _ _ _ done2 (omega (arith, f3.0, lb3 s)) f3.1 (omega (arith, s.fits.room, l2 s, lb3 s)) in
-    let f4 = c.put_column_section-at_cells.ensures in
-    let done4 : Done s (F4 s) c.put_column_section-at_cells.result c.put_column_section-at_cells.new.out = next s (F3 s) (b4 s) _ _ _ _ done3 (omega (arith, f4.0, lb4 s)) f4.1 (omega (arith, s.fits.room, l3 s, lb4 s)) in
-    let f5 = c.put_column_section-at_tables.ensures in
-    let e5 = f5.1 ∙ ap (λ (v : ℕ). put c.put_column_section-at_cells.result (at s 1 * s.long ∷ stretched v (at s 0) s.long (at s 1) s.w.cells) c.put_column_section-at_cells.new.out) c.placeholder-fill.ensures in
-    let done5 : Done s (F5 s) c.put_column_section-at_tables.result c.put_column_section-at_tables.new.out = next s (F4 s) (b5 s) _ _ _ _ done4 (omega (arith, f5.0, lb5 s)) e5 (omega (arith, s.fits.room, l4 s, lb5 s)) in
-    omega (arith, s.fits.room, l5 s, done5.0, as_long s (F5 s) _ _ done5 (omega (arith, s.fits.room, l5 s)))
 
 pub returns : goal.returns
 returns c =

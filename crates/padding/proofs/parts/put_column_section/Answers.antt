@@ -1,22 +1,9 @@
 -- `parts::put_column_section` meets its contract: the columns stand behind their count.
-use Rattle.std.proofs.Common.{refl, ap, ◌∙◌, [], ◌∷◌, arith, ◌+◌, ◌*◌, length}
-use Rattle.writer.specs.PutLaws.{put-length, put_fits}
+use Rattle.std.proofs.Common.{refl, ◌∙◌, [], ◌∷◌, arith, ◌+◌, ◌*◌}
+use Rattle.writer.specs.PutLaws.{put_fits}
 use Rattle.padding.specs.Padding.{stretched}
 use Rattle.padding.specs.PartsLaws.{put-after, stretched-long}
 use Rattle.padding.proofs.parts.put_column_section.Goals as goal
-
-pub overflow_mul-columns : goal.overflow_mul-columns
-overflow_mul-columns c = omega (arith, c.requires.height_le_long.2)
-
-pub overflow_add-at : goal.overflow_add-at
-overflow_add-at c = omega (arith, c.requires.height_le_long.2)
-
-pub put_columns-requires : goal.put_columns-requires
-put_columns-requires c =
-    let a = c.args in
-    let n = a.columns * a.long ∷ [] in
-    let e = c.put_same.ensures ∙ put_fits a.at n a.out.now (omega (arith, c.requires.height_le_long.2)) in
-    record { height_le_long = (c.requires.height_le_long.0, c.requires.height_le_long.1, omega (arith, c.requires.height_le_long.2, ap length e, put-length a.at n a.out.now (omega (arith, c.requires.height_le_long.2)))); long_le_longest_trace = c.requires.long_le_longest_trace }
 
 pub returns : goal.returns
 returns c =

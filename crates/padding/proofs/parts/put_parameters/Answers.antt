@@ -2,20 +2,13 @@
 use Rattle.std.proofs.Common.{List, [], ◌∷◌, ◌≡◌, refl, ap, ◌∙◌, arith, ℕ, ◌-◌, drop, length, length-drop, take, take_all}
 use Rattle.parameters.specs.Parameters.{parameter_words}
 use Rattle.writer.specs.Put.{put}
-use Rattle.writer.specs.PutLaws.{put_fits, put-length}
+use Rattle.writer.specs.PutLaws.{put_fits}
 use Rattle.padding.specs.PartsLaws.{put-after}
 use Rattle.padding.proofs.parts.put_parameters.Goals as goal
 
 -- the part is all words but the first
 part : (ws : List ℕ) → take (length ws - 1) (drop 1 ws) ≡ drop 1 ws
 part ws = take_all (length ws - 1) (drop 1 ws) (omega (arith, length-drop 1 ws))
-
-pub put_counted-requires : goal.put_counted-requires
-put_counted-requires c =
-    -- the count stands at the front
-    let counted : c.put_same.new.out ≡ put 0 (parameter_words ∷ []) c.args.out.now = c.put_same.ensures ∙ put_fits 0 (parameter_words ∷ []) c.args.out.now (omega (arith, c.requires.1)) in
-    let ws = c.args.eight.now in
-    omega (arith, c.requires.0, c.requires.1, ap length (part ws), length-drop 1 ws, ap length counted, put-length 0 (parameter_words ∷ []) c.args.out.now (omega (arith, c.requires.1)))
 
 pub returns : goal.returns
 returns c =

@@ -1,15 +1,8 @@
 -- `parts::put_row_section` meets its contract: the missing rows stand behind the given ones.
 use Rattle.std.proofs.Common.{◌≡◌, ap, ◌∙◌, ◌∷◌, arith, ◌+◌, ◌*◌, length}
-use Rattle.writer.specs.PutLaws.{put-length}
 use Rattle.padding.specs.Padding.{fillers}
 use Rattle.padding.specs.PartsLaws.{put-after, fillers-long}
 use Rattle.padding.proofs.parts.put_row_section.Goals as goal
-
-pub put_rows-requires : goal.put_rows-requires
-put_rows-requires c =
-    let a = c.args in
-    let e = c.put_counted-behind.ensures in
-    omega (arith, e.0, ap length e.1, put-length a.at (a.long ∷ a.rows.now) a.out.now (omega arith))
 
 pub returns : goal.returns
 returns c =

@@ -12,18 +12,6 @@ use Rattle.claim.specs.Keeping.{keeping}
 use Rattle.stage.specs.Steps.{step_rows, step_words, step_cells, step_tables, step_finishing}
 use Rattle.stage.proofs.circuit.give_sections.Goals as goal
 
-pub shape_of-constants : goal.shape_of-constants
-shape_of-constants c = c.take_s_words.auto.constants ∙ c.take_rows.auto.constants
-
-pub shape_of-copies : goal.shape_of-copies
-shape_of-copies c = c.take_finish.auto.copies ∙ c.take_cells.auto.copies
-
-pub shape_of-scratch : goal.shape_of-scratch
-shape_of-scratch c = c.take_cells.auto.scratch
-
-pub shape_of-tables : goal.shape_of-tables
-shape_of-tables c = c.take_tables.auto.tables
-
 pub returns : goal.returns
 unfolding chained
 returns c =

@@ -31,18 +31,6 @@ returns-in_err-state c =
     let o = opened a.plan a.rows.now a.s_words.now a.cells.now a.table_words.now b (sym c.in_ok-sections_number.ensures) in
     absurd (refusal_nonzero c.in_err-state.field-0.0 (c.in_err-state.ensures.value ∙ o))
 
-pub shape_of-constants : goal.shape_of-constants
-shape_of-constants c = c.give_sections.auto.constants ∙ c.open.auto.constants
-
-pub shape_of-copies : goal.shape_of-copies
-shape_of-copies c = c.give_sections.auto.copies ∙ c.open.auto.copies
-
-pub shape_of-scratch : goal.shape_of-scratch
-shape_of-scratch c = c.give_sections.auto.scratch ∙ c.open.auto.scratch
-
-pub shape_of-tables : goal.shape_of-tables
-shape_of-tables c = c.give_sections.auto.tables ∙ c.open.auto.tables
-
 pub returns : goal.returns
 returns c =
     let a = c.args in
