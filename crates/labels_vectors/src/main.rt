@@ -103,7 +103,5 @@ fn main(rt: HostRuntime) -> io::Result<()> {
         .note(length % 8 == 0);
     println!(rt; "accepted records {accepted}")?;
     println!(rt; "refused records {refused}")?;
-    println!(rt; "words {}", s.at)?;
-    println!(rt; "comparisons {}", s.compared)?;
-    println!(rt; "differences {}", s.differences)
+    s.print(&rt)
 }

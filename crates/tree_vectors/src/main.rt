@@ -213,10 +213,5 @@ fn main(rt: HostRuntime) -> io::Result<()> {
         .note(length % 8 == 0);
     println!(rt; "plans {plans}")?;
     println!(rt; "made-up plans {made_up}")?;
-    let at = s.at;
-    println!(rt; "words {at}")?;
-    let compared = s.compared;
-    println!(rt; "comparisons {compared}")?;
-    let differences = s.differences;
-    println!(rt; "differences {differences}")
+    s.print(&rt)
 }
