@@ -1,5 +1,5 @@
 -- `program::program::run_read` meets its contract: the code makes the definition's tests, and the words read are those of the bytes.
-use Rattle.std.proofs.Common.{List, length, take, replicate, length-take-le, ◌≡◌, sym, ap, ◌∙◌, arith, ℕ, ◌/◌, ◌%◌, ◌≤◌}
+use Rattle.std.proofs.Common.{List, length, take, replicate, ◌≡◌, ap, ◌∙◌, arith, ℕ, ◌/◌, ◌%◌, ◌≤◌}
 use Rattle.std.proofs.lemmas.List.{length-replicate}
 use Rattle.octets.specs.Text.{sink, put}
 use Rattle.octets.specs.Words.{words_of, words_read}
@@ -19,13 +19,6 @@ returns-then-bytes-gt-MOST_BYTES c =
       | then-bytes-gt-MOST_BYTES-via-else-bytes-gt-MOST_BYTES+then-bytes-ne0 w ↦ text-odd bytes (omega (arith, w.if-bytes-gt-MOST_BYTES.false)) w.if-bytes-ne0.true
     ] in
     c.put_refused.ensures ∙ ap (put (sink c.args.out.now 0)) text
-
-pub slice_bounds-run_words-end : goal.slice_bounds-run_words-end
-slice_bounds-run_words-end c =
-    let w = c.read_words-many in
-    let l : length w.new.words ≡ 8192 = w.auto.words ∙ length-replicate {A = ℕ} 8192 0 in
-    let h : w.result ≤ length w.new.words = omega (arith, w.ensures.value, l, length-replicate {A = ℕ} 8192 0) in
-    sym (length-take-le w.result w.new.words h)
 
 pub returns : goal.returns
 returns c =

@@ -5,9 +5,6 @@ use Rattle.octets.specs.TextLaws.{then}
 use Rattle.report.specs.Report.{newline}
 use Rattle.report.proofs.lines.put_column.Goals as goal
 
--- LEFT slice-aggregate-put-bytes : tie.Need-slice-aggregate-put-bytes
--- LEFT slice-aggregate-put-bytes c = search rules
-
 pub returns : goal.returns
 returns c =
     let a = c.args in

@@ -5,12 +5,6 @@ use Rattle.octets.specs.TextLaws.{then}
 use Rattle.report.specs.Report.{newline, plan_name}
 use Rattle.report.proofs.lines.put_plan.Goals as goal
 
--- LEFT slice-aggregate-put-bytes : tie.Need-slice-aggregate-put-bytes
--- LEFT slice-aggregate-put-bytes c = search rules
-
--- LEFT slice-aggregate-put-bytes-2 : tie.Need-slice-aggregate-put-bytes-2
--- LEFT slice-aggregate-put-bytes-2 c = search rules
-
 pub returns : goal.returns
 returns c =
     let a = c.args in

@@ -7,9 +7,6 @@ use Rattle.report.proofs.lines.put_steps.Goals as goal
 pub returns-then-steps-eq0 : goal.returns-then-steps-eq0
 returns-then-steps-eq0 c = λ path s. steps-none (sink c.args.out.now c.args.at) path (omega (arith, c.if-steps-eq0.true, s.steps_are))
 
--- LEFT slice-aggregate-put-bytes : tie.Need-slice-aggregate-put-bytes
--- LEFT slice-aggregate-put-bytes c = search rules
-
 pub returns : goal.returns
 returns c =
     let a = c.args in
