@@ -178,7 +178,7 @@ fn replay_made_up(bytes: &[u8], start: Replay) -> Replay {
     };
     let last = z.step();
     if holds(given) {
-        return last.expect(bytes, refusal::answer_number(plan.fault()));
+        return last.expect(bytes, refusal::answer_number(&plan.fault()));
     }
     last.expect(bytes, 19)
 }
