@@ -36,6 +36,7 @@ use Rattle.padding.specs.Lengths.{one_in_range, power_in_range}
 use Rattle.padding.specs.Traces.{other_number}
 use Rattle.padding.specs.Parts.{Small, Fitting, laid}
 use Rattle.padding.specs.Judging.{six_of}
+use Rattle.writer.specs.Hand.{Wrote}
 
 -- ---- a circuit that is not refused
 pub record Good (w : Words) : Type 0 where
@@ -233,6 +234,10 @@ small_as l m l' m' p p' a b c s = rw (a, b, c) s
 
 pub fitting_as : (l m l' m' : ℕ) (w w' : Words) (out : List ℕ) → l' ≡ l → m' ≡ m → w' ≡ w → Fitting l m w out → Fitting l' m' w' out
 fitting_as l m l' m' w w' out a b c s = rw (a, b, c) s
+
+-- what a call that writes a listing answers is its number and its words
+pub wrote_is : (r : Wrote) (n m : ℕ) → r.number ≡ n → r.words ≡ m → r ≡ record { number = n; words = m }
+wrote_is r n m a b = rw (← a, ← b)
 
 -- the plan's numbers are the parameters'
 pub record Numbers (n : ℕ) (p : Parameters) (gs : List ℕ) (x : Setting) : Type 0 where
