@@ -1,5 +1,5 @@
 // Functions for callers in C and Rust. Each takes any words at all; slices pass as pointer and
-// length. The answer is 0 or 01's refusal number.
+// length. The answer is a `Result`, which `capi_c` turns into 0 or 01's refusal number.
 #![tactic(auto)]
 
 ghost use Rattle.std.specs.Prelude.{◌≡◌};

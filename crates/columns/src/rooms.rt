@@ -37,7 +37,7 @@ pub(crate) fn rooms_of(outline: Outline) -> Rooms
     }
 }
 
-// Whether each buffer is long enough to be opened.
+// Refuses buffers of which one is too short to be opened.
 pub(crate) fn room_number(
     outline: Outline,
     constants: &[u64],

@@ -59,7 +59,7 @@ fn counts_fit(outline: Outline, counts: Counts) -> bool
         && counts.table_rows <= most_rows
 }
 
-// Refuses a made-up state: a sound plan, open, and no count past its section.
+// Refuses a made-up state; one that is none has a sound plan, is open, and has no count past its section.
 fn stands(parts: Parts<'_>, counts: Counts) -> Result<(), Refusal>
     ensures { (us : List ℕ) → answer_number result ≡ pick (stands (setting_of (parts_plan parts.entry)) (state_in counts us)) 0 19 }
 {

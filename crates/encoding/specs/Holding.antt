@@ -41,7 +41,7 @@ no_plan = record { fits = false; outline = outline_of zero_plan }
 -- the outline that the code finds, or none
 abbrev pub outlined : Option Outline → Outlined
 outlined (Some o) = record { fits = true; outline = o }
-outlined None = no_plan
+outlined None = record { fits = false; outline = outline_of zero_plan }
 
 abbrev pub outline_there : List ℕ → Outlined
 outline_there ws = pick (lookup_there ws) (record { fits = true; outline = outline_at ws }) no_plan

@@ -1,5 +1,5 @@
-// What is asked of an unpadded circuit before a word is written: the length, the first kind 1 gate
-// and the number.
+// What is asked of an unpadded circuit before a word is written: the length and the first kind 1
+// gate, or the refusal.
 ghost use Rattle.std.specs.Prelude.{◌≡◌, ◌<◌, ◌^◌, ◌≤◌, length, leb, IfSome};
 ghost use Rattle.base.specs.Each.{Each};
 ghost use Rattle.base.specs.Exponent.{exponent};

@@ -1,4 +1,4 @@
-// Why a call writes nothing. Each refusal has the number that callers in C and the program `setup` tell.
+// Why a call is refused. Each refusal has the number that callers in C and the program `setup` tell.
 #![tactic(auto)]
 
 ghost use Rattle.std.specs.Prelude.{◌≡◌};

@@ -241,7 +241,14 @@ no_gate_rows =
 
 -- the words of all gates of no plan
 abbrev pub no_rows : GateRows
-no_rows = rows_told no_gate_rows
+no_rows =
+    record {
+      many = 0;
+      bits = replicate most_gates 0;
+      steps = replicate most_gates 0;
+      barred = replicate most_gates 0;
+      own = replicate most_gates 0;
+    }
 
 -- 19 first
 unfoldable pub gate_rows_answer : Plan → RowsAnswer

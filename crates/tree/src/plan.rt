@@ -193,7 +193,7 @@ impl<'a> Parts<'a> {
 }
 
 impl Plan {
-    // The plan of zeros that a refusal hands back.
+    // The plan of zeros, which functions over words write after a refusal.
     pub fn zero() -> Self
         ensures { result ≡ zero_plan }
     {
