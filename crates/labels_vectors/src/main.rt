@@ -62,16 +62,30 @@ fn replay_accepted(bytes: &[u8], start: Replay) -> Replay {
     replay_labels(bytes, replay_representatives(bytes, s.step(), n, c), n, c)
 }
 
-// A refusal: the numbers of the label and of the representatives.
+// The representatives' number as recorded; where it is a refusal, what stands for none is all 0.
+fn replay_refusal(bytes: &[u8], start: Replay, n: u64, c: u64) -> Replay {
+    let answer = labels::representatives(n, c);
+    let s = start.expect(bytes, answer_number(&answer));
+    if answer.is_ok() {
+        return s;
+    }
+    let none = NonResidues::none();
+    let t = replay_columns(bytes, s.note(none.taken == 0), 0, &none.values);
+    replay_columns(bytes, t, 0, &none.powers)
+}
+
+// A refusal: the numbers of the label and of the representatives; no label but 0.
 fn replay_refused(bytes: &[u8], start: Replay) -> Replay {
     let n = start.word(bytes);
     let s = start.step();
     let c = s.word(bytes);
     let t = s.step();
-    let label = labels::label(n, c, t.word(bytes));
-    t.step()
-        .expect(bytes, answer_number(&label))
-        .expect(bytes, answer_number(&labels::representatives(n, c)))
+    let answer = labels::label(n, c, t.word(bytes));
+    let u = t
+        .step()
+        .expect(bytes, answer_number(&answer))
+        .note(answer.unwrap_or(0) == 0);
+    replay_refusal(bytes, u, n, c)
 }
 
 fn main(rt: HostRuntime) -> io::Result<()> {
