@@ -35,5 +35,5 @@ fn main(rt: HostRuntime) -> io::Result<()> {
     let records = Replay::new().step().step().step();
     let s = (0..count).fold(records, |s, _| replay_record(bytes, s));
     println!(rt; "records {count}")?;
-    s.print(&rt)
+    println!(rt; "{s}")
 }

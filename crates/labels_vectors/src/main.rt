@@ -103,5 +103,5 @@ fn main(rt: HostRuntime) -> io::Result<()> {
         .note(length % 8 == 0);
     println!(rt; "accepted records {accepted}")?;
     println!(rt; "refused records {refused}")?;
-    s.print(&rt)
+    println!(rt; "{s}")
 }

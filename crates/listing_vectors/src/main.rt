@@ -61,5 +61,5 @@ fn main(rt: HostRuntime) -> io::Result<()> {
         .note(length / 8 == all.at as usize)
         .note(length % 8 == 0);
     println!(rt; "listings {count}")?;
-    s.print(&rt)
+    println!(rt; "{s}")
 }

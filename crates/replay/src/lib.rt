@@ -7,7 +7,7 @@ ghost use Rattle.octets.specs.Words.{word_at};
 ghost use Rattle.replay.specs.Replay.{started, stepped, compared, noted};
 
 use octets::words::word_at;
-use std::io;
+use std::fmt;
 
 // No recording and no run comes near it: a count stays there.
 const LIMIT: u64 = 1_000_000_000;
@@ -70,11 +70,12 @@ impl Replay {
         let same = self.word(bytes) == answer;
         self.note(same).step()
     }
+}
 
-    // The lines that a program which replays ends with.
-    pub fn print(self, rt: &impl Print) -> io::Result<()> {
-        println!(rt; "words {}", self.at)?;
-        println!(rt; "comparisons {}", self.compared)?;
-        println!(rt; "differences {}", self.differences)
+// The lines that a program which replays ends with.
+impl fmt::Display for Replay {
+    fn fmt<W: fmt::Write>(&self, f: &mut fmt::Formatter<W>) -> fmt::Result {
+        write!(f, "words {}\ncomparisons {}\n", self.at, self.compared)?;
+        write!(f, "differences {}", self.differences)
     }
 }

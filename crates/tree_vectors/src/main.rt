@@ -213,5 +213,5 @@ fn main(rt: HostRuntime) -> io::Result<()> {
         .note(length % 8 == 0);
     println!(rt; "plans {plans}")?;
     println!(rt; "made-up plans {made_up}")?;
-    s.print(&rt)
+    println!(rt; "{s}")
 }
