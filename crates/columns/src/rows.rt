@@ -64,7 +64,7 @@ fn stage_rows(
 
 // The records of a piece without a fault, in the rows from `count` on: 32 at a time, which are
 // staged as lines and then written column by column, a few lines of the cache in each. A whole
-// circuit takes 0.95 of the time, 0.92 from 1,024 rows on (8b422fc, where a line was staged word by word).
+// circuit takes 0.95 of the time, 0.92 from 1,024 rows on (eeac0d2, where a line was staged word by word).
 pub(crate) fn write_rows(
     height: u64,
     trace: u64,
