@@ -8,9 +8,6 @@ pub record Stride (n step len i place : ℕ) : Type 0 where
   pub within : i ≤ n
   pub room : place + (n - i) * step < len + step
 
-pub stride_begin : (n step len place : ℕ) → place + n * step < len + step → Stride n step len 0 place
-stride_begin n step len place h = let z : n - 0 ≡ n = omega arith in record { within = omega arith; room = rw z h }
-
 module _ (n step len i place : ℕ) (s : Stride n step len i place) (h : i < n) where
   more : place + suc (n - (i + 1)) * step < len + step
   more = let e : n - i ≡ suc (n - (i + 1)) = omega arith in rw e at s.room
