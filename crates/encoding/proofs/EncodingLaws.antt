@@ -4,7 +4,7 @@
 use Rattle.std.specs.Prelude.{◌+◌, ◌<◌, ◌≤◌, suc, ℕ, eqb, leb, drop, get_or, length, replicate, set, take, Bool, false, true, List, [], ◌++◌, ◌∷◌, ◌≢◌, ◌≡◌, refl}
 use Rattle.std.proofs.Common.{eq-eqb, eqb-true, le-leb, leb-true, ne_eqb, length-append, length-drop, take-append-drop, drop-cons, drop-drop, get_or-append-add, length-take-le, take_at, append_assoc, ◌∙◌, ap, sym, add-one, arith}
 use Rattle.std.proofs.lemmas.Bool.{lt-leb}
-use Rattle.std.proofs.lemmas.List.{get_or_at, set_at}
+use Rattle.std.proofs.lemmas.List.{length-replicate, get_or_at, set_at}
 use Rattle.std.proofs.Math.Seq.{drop-append-add, drop-length, take-length}
 use Rattle.std.proofs.Math.Decide.{dec_le, ℕ_discrete}
 use Rattle.base.specs.Limits.{most_gates}
@@ -23,7 +23,7 @@ use Rattle.tree.specs.PlanLaws.{zero_fault}
 use Rattle.tree.specs.declared.plan.Plan.{Plan}
 use Rattle.columns.specs.Intake.{zero_intake}
 use Rattle.writer.specs.Hand.{handed}
-use Rattle.writer.proofs.HandLaws.{handed-long, handed_short}
+use Rattle.writer.proofs.HandLaws.{handed-long, handed_short, handed_whole}
 use Rattle.writer.specs.Put.{put, put_if}
 use Rattle.writer.specs.PutLaws.{put_fits}
 use Rattle.encoding.specs.Encoding.{count_at, counts_from, counts_length, gates_from, head_words, intake_at, intake_of, intake_words, lookup_fits, lookup_there, marks_at, nodes_from, phase_at, plan_at, plan_length, plan_of, plan_words, progress_length, progress_of, progress_words, progressed, state_length, tail_from, tail_length, tail_words, used_from}
@@ -309,6 +309,12 @@ state_other ws d = sym (pick_no (eqb (length ws) state_length) _ zero_intake (ne
 pub state_read : (ws : List ℕ) → length ws ≡ state_length → intake_at ws ≡ intake_of ws
 unfolding intake_of
 state_read ws e = sym (pick_yes (eqb (length ws) state_length) (intake_at ws) zero_intake (eq-eqb (length ws) state_length e))
+
+-- a part of the words in an array of zeros that is as long
+pub part-read : (ws : List ℕ) (at n : ℕ) → at + n ≤ length ws → handed (take n (drop at ws)) (replicate n 0) ≡ take n (drop at ws)
+part-read ws at n h =
+    let e = length-take-le n (drop at ws) (omega (arith, length-drop at ws)) in
+    handed_whole (take n (drop at ws)) (replicate n 0) (e ∙ sym (length-replicate n 0))
 
 -- ---- words that are decoded and encoded again
 -- the lookup mode of three words that fit answers for them
