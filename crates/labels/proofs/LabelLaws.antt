@@ -112,6 +112,10 @@ accepted_search n c z =
       taken = rw (eq-eqb (pick (ranges_fit n c) (search_number n c) out_of_range) 0 z);
     }
 
+-- an accepted search finds C columns
+pub found_all : (n c : ℕ) → representatives_number n c ≡ 0 → length (found n c).values ≡ c
+found_all n c z = (accepted_search n c z).many
+
 -- column 0 is there from the start, and every other column has cost a power
 found-taken : (n c : ℕ) → length (found n c).values ≤ 1 + powers_taken n c
 unfolding found powers_taken

@@ -1,7 +1,7 @@
 -- 01, 'Labels': the domain generator, the representatives of the columns, the labels of the cells, and the answers to who asks for them.
 --
 -- Main definitions: `domain_generator`; `Columns`, `tried`, `search_from`, `found` (the search); `taken_one`, `taken_from`, `powers_taken` (how many N-th powers it takes);
--- `representatives_number`, `representatives_of`, `powers_of`, `taken_of`; `label_of`, `label_number`, `label_answer`; `fill_number`, `labels_written`.
+-- `representatives_number`, `representatives_of`, `powers_of`, `kept_of`, `taken_of`; `label_of`, `label_number`, `label_answer`; `fill_number`, `labels_written`.
 use Rattle.std.specs.Prelude.{Bool, true, false, List, [], ◌∷◌, ◌++◌, ℕ, zero, suc, ◌+◌, ◌-◌, ◌*◌, ◌/◌, ◌%◌, ltb, leb, eqb, length, get_or, drop, replicate}
 use Rattle.base.specs.Pick.{pick}
 use Rattle.base.specs.Exponent.{exponent}
@@ -85,6 +85,10 @@ representatives_of n c = pick (eqb (representatives_number n c) 0) (column_words
 -- 02, Change 3: "each representative's N-th power beside it"; zeros after a refusal, as the representatives are
 unfoldable pub powers_of : ℕ → ℕ → List ℕ
 powers_of n c = pick (eqb (representatives_number n c) 0) (column_words (found n c).powers) (replicate most_columns 0)
+
+-- how many columns have their representative: all C; none after a refusal
+unfoldable pub kept_of : ℕ → ℕ → ℕ
+kept_of n c = pick (eqb (representatives_number n c) 0) c 0
 
 -- "with the number of N-th powers taken"; 0 after a refusal
 unfoldable pub taken_of : ℕ → ℕ → ℕ

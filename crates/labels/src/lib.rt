@@ -5,12 +5,19 @@ ghost use Rattle.std.specs.Prelude.{◌≡◌, ℕ, ◌+◌, ◌*◌, ◌≤◌,
 ghost use Rattle.base.specs.Fills.{Filled};
 ghost use Rattle.field.specs.Field.{p, fpow, is_non_residue};
 ghost use Rattle.labels.specs.Ranges.{ranges_fit, most_columns};
-ghost use Rattle.labels.specs.Labels.{Columns, domain_generator, absent, first_column, tried, found, taken_one, powers_taken, representatives_number, representatives_of, powers_of, taken_of, label_of, label_number, label_answer, fill_number, labels_written};
+ghost use Rattle.labels.specs.Labels.{Columns, domain_generator, absent, first_column, tried, found, taken_one, powers_taken, representatives_number, representatives_of, powers_of, kept_of, taken_of, label_of, label_number, label_answer, fill_number, labels_written};
 ghost use Rattle.labels.specs.Stored.{stored, no_representatives};
 ghost use Rattle.refusal.specs.Refusal.{answer_number, answer_or};
 ghost use Rattle.labels.specs.Stretches.{root_power, scaled_from, negated_from, HalfTurn, ColumnZero};
 
 use refusal::Refusal;
+
+// The refusals of labels: N, C or a cell is out of range; the candidates reach p; a lent slice is too short.
+pub const OUT_OF_RANGE: Refusal = Refusal::Parameter;
+
+pub const CANDIDATES_REACH_P: Refusal = Refusal::NoLabels;
+
+pub const BUFFER_TOO_SHORT: Refusal = Refusal::ShortBuffer;
 
 pub const LONGEST_TRACE: u64 = 65536;
 
@@ -121,14 +128,15 @@ pub fn representatives(n: u64, c: u64) -> Result<NonResidues, Refusal>
     ensures number_value { answer_number result ≡ representatives_number n c }
     ensures values_value { (answer_or no_representatives result).values ≡ representatives_of n c }
     ensures powers_value { (answer_or no_representatives result).powers ≡ powers_of n c }
+    ensures kept_value { (answer_or no_representatives result).kept ≡ kept_of n c }
     ensures taken_value { (answer_or no_representatives result).taken ≡ taken_of n c }
 {
     if !ranges_fit(n, c) {
-        return Err(Refusal::Parameter);
+        return Err(OUT_OF_RANGE);
     }
     let found = make_non_residues(n, c);
     if found.kept < c {
-        return Err(Refusal::NoLabels);
+        return Err(CANDIDATES_REACH_P);
     }
     Ok(found)
 }
@@ -140,7 +148,7 @@ pub fn label(n: u64, c: u64, cell: u64) -> Result<u64, Refusal>
     ensures value_value { answer_or 0 result ≡ label_answer n c cell }
 {
     if !ranges_fit(n, c) || c * n <= cell {
-        return Err(Refusal::Parameter);
+        return Err(OUT_OF_RANGE);
     }
     let values = representatives(n, c)?.values;
     let column = (cell / n) as usize;
@@ -215,10 +223,10 @@ pub fn fill_labels(n: u64, c: u64, copies: &mut [u64]) -> Result<(), Refusal>
     ensures copies_after { copies.new ≡ labels_written n c copies.old }
 {
     if !ranges_fit(n, c) {
-        return Err(Refusal::Parameter);
+        return Err(OUT_OF_RANGE);
     }
     if (copies.len() as u64) < c * n {
-        return Err(Refusal::ShortBuffer);
+        return Err(BUFFER_TOO_SHORT);
     }
     let found = representatives(n, c)?;
     materialize_x_poly(n, copies);

@@ -2,10 +2,10 @@
 // writes how many records and words were compared, and how many differed.
 #![tactic(auto)]
 
-use labels::{ColumnWords, NonResidues};
+use labels::{BUFFER_TOO_SHORT, ColumnWords, NonResidues};
 use octets::input::fill as read_input;
 use octets::words::word_at;
-use refusal::{Refusal, answer_number};
+use refusal::answer_number;
 use replay::Replay;
 use std::io;
 
@@ -48,7 +48,7 @@ fn replay_label(bytes: &[u8], start: Replay, n: u64, c: u64, filled: Option<&[u6
 fn replay_labels(bytes: &[u8], start: Replay, n: u64, c: u64) -> Replay {
     let mut copies = [0u64; 4096];
     let answer = labels::fill_labels(n, c, &mut copies);
-    let long = answer == Err(Refusal::ShortBuffer) && 64 < n;
+    let long = answer == Err(BUFFER_TOO_SHORT) && 64 < n;
     let s = start.note(answer.is_ok() || long);
     let filled = answer.is_ok().then_some(&copies[..]);
     let many = s.word(bytes) % 65536;
