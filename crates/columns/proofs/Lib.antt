@@ -5,5 +5,4 @@ pub mod StageLoop
 pub mod Parts
 pub mod TableLoop
 pub mod Tested
-pub mod Puts
 pub mod Standing

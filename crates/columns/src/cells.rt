@@ -3,7 +3,7 @@ ghost use Rattle.std.specs.Prelude.{◌≡◌, ℕ, ◌+◌, ◌<◌, ◌≤◌,
 ghost use Rattle.refusal.specs.Refusal.{answer_number};
 ghost use Rattle.pieces.specs.Setting.{cols};
 ghost use Rattle.pieces.specs.Cells.{cells_fault, place_cell, cells_run};
-ghost use Rattle.columns.specs.Section.{named};
+ghost use Rattle.columns.specs.Section.{all_of, named};
 ghost use Rattle.columns.specs.Placeable.{Placeable};
 
 use crate::records::test_words;
@@ -17,6 +17,18 @@ fn is_named(vars: u64, variable: Variable) -> bool
     variable.as_variable_index() < vars || variable.is_placeholder()
 }
 
+// Whether each of the words is so.
+fn all_named(vars: u64, words: &[u64]) -> bool
+    ensures { result ≡ all_of (named vars) words.now }
+{
+    for word in words {
+        if !is_named(vars, Variable(*word)) {
+            return false;
+        }
+    }
+    true
+}
+
 // Tests the words of a piece: one of those that have room is faulty, else there are more.
 pub(crate) fn cells_fault(total: u64, vars: u64, count: u64, piece: &[u64]) -> Result<(), Refusal>
     requires { (count ≤ total) × (total ≤ 4294967296) }
@@ -25,7 +37,7 @@ pub(crate) fn cells_fault(total: u64, vars: u64, count: u64, piece: &[u64]) -> R
     test_words(
         (total - count) as usize,
         piece,
-        |word| is_named(vars, Variable(word)),
+        |words| all_named(vars, words),
         Refusal::Variable,
     )
 }

@@ -1,5 +1,6 @@
 // What rows, S words and tables have in common: words below p, words in place, lines across columns.
-ghost use Rattle.std.specs.Prelude.{◌≡◌, Bool, ℕ, ◌+◌, ◌*◌, ◌<◌, ◌≤◌, length, take, drop, replicate, leb};
+ghost use Rattle.std.specs.Borrow.{Bor};
+ghost use Rattle.std.specs.Prelude.{◌≡◌, Bool, List, ℕ, ◌+◌, ◌*◌, ◌<◌, ◌≤◌, length, take, drop, replicate, leb};
 ghost use Rattle.base.specs.Pick.{pick};
 ghost use Rattle.refusal.specs.Refusal.{answer_number, refusal_number};
 ghost use Rattle.field.specs.Field.{p};
@@ -15,22 +16,27 @@ use refusal::Refusal;
 pub(crate) fn all_below(words: &[u64]) -> bool
     ensures { result ≡ all_below p words.now }
 {
-    words.iter().all(|word| *word < field::P)
+    for word in words {
+        if field::P <= *word {
+            return false;
+        }
+    }
+    true
 }
 
-// Tests the words of a piece in a section that has room for `room` words: a word that has room is not
+// Tests the words of a piece in a section that has room for `room` words: those that have room are not all
 // fine, else there are more words.
-pub(crate) fn test_words<F: Fn(u64) -> bool>(
+pub(crate) fn test_words<F: Fn(&[u64]) -> bool>(
     room: usize,
     piece: &[u64],
-    fine: F,
+    all_fine: F,
     fault: Refusal,
 ) -> Result<(), Refusal>
-    requires { F.IsAlwaysCallable fine }
-    ensures { (test : ℕ → Bool) → ((word : ℕ) (answer : Bool) → F.post fine word answer → answer ≡ test word)
+    requires { F.IsAlwaysCallable all_fine }
+    ensures { (test : ℕ → Bool) → ((words : Bor (List ℕ)) (answer : Bool) → F.post all_fine words answer → answer ≡ all_of test words.now)
         → answer_number result ≡ pick (all_of test (take room piece.now)) (pick (leb (length piece.now) room) 0 13) (refusal_number fault) }
 {
-    if !piece.iter().take(room).all(|word| fine(*word)) {
+    if !all_fine(&piece[..room.min(piece.len())]) {
         return Err(fault);
     }
     if room < piece.len() {
@@ -44,7 +50,9 @@ pub(crate) fn write_words(at: usize, words: &[u64], buffer: &mut [u64])
     requires { at + length words.now ≤ length buffer.old }
     ensures { buffer.new ≡ put 1 buffer.old at words.now }
 {
-    buffer[at..at + words.len()].copy_from_slice(words);
+    for (i, word) in words.iter().enumerate() {
+        buffer[at + i] = *word;
+    }
 }
 
 // The first digits of a word at consecutive places, the least first: a path's steps from the root on.
@@ -64,7 +72,9 @@ pub(crate) fn write_same(word: u64, at: usize, many: u64, buffer: &mut [u64])
     requires { at + many ≤ length buffer.old }
     ensures { buffer.new ≡ put 1 buffer.old at (replicate many word) }
 {
-    buffer[at..at + many as usize].fill(word);
+    for i in 0..many as usize {
+        buffer[at + i] = word;
+    }
 }
 
 // Every `step`-th of the words, from place `from` on, at consecutive places of the buffer from `at`

@@ -69,14 +69,14 @@ pub(crate) fn write_rows(
     height: u64,
     trace: u64,
     count: u64,
-    gates: GateRows,
+    gates: &GateRows,
     piece: &[u64],
     constants: &mut [u64],
 )
-    requires trace_bound { (trace ≤ 65536) × (height ≤ 64) × (gates.many ≤ most_gates) × (height * trace ≤ length constants.old) }
-    requires fits { Fits (told_by gates) height gates.steps }
-    requires piece_value { rows_fault (told_by gates) trace count (rows_of piece.now) ≡ 0 }
-    ensures { (path : ℕ → List ℕ) → Spells gates.many path gates.bits gates.steps → constants.new ≡ put_lines height trace count (row_lines path (rows_of piece.now)) constants.old }
+    requires trace_bound { (trace ≤ 65536) × (height ≤ 64) × (gates.now.many ≤ most_gates) × (height * trace ≤ length constants.old) }
+    requires fits { Fits (told_by gates.now) height gates.now.steps }
+    requires piece_value { rows_fault (told_by gates.now) trace count (rows_of piece.now) ≡ 0 }
+    ensures { (path : ℕ → List ℕ) → Spells gates.now.many path gates.now.bits gates.now.steps → constants.new ≡ put_lines height trace count (row_lines path (rows_of piece.now)) constants.old }
 {
     let mut stage = [0; 2048];
     let mut row = count as usize;

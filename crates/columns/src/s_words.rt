@@ -3,7 +3,7 @@ ghost use Rattle.std.specs.Prelude.{◌≡◌, ◌≤◌};
 ghost use Rattle.refusal.specs.Refusal.{answer_number};
 ghost use Rattle.pieces.specs.SWords.{s_words_fault};
 
-use crate::records::test_words;
+use crate::records::{all_below, test_words};
 use refusal::Refusal;
 
 // Tests the words of a piece: one of those that have room is not below p, else there are more.
@@ -14,7 +14,7 @@ pub(crate) fn s_words_fault(total: u64, count: u64, piece: &[u64]) -> Result<(),
     test_words(
         (total - count) as usize,
         piece,
-        |word| word < field::P,
+        |words| all_below(words),
         Refusal::NotAnElement,
     )
 }

@@ -105,7 +105,7 @@ pub fn take_rows(
         outline.told.constants,
         outline.trace,
         counts.rows,
-        gates,
+        &gates,
         piece,
         constants,
     );

@@ -9,19 +9,19 @@ ghost use Rattle.claim.specs.Keeping.{keeping};
 ghost use Rattle.stage.specs.Circuit.{calls, staged_by, stage_answer, stage_left};
 ghost use Rattle.stage.specs.Planned.{planned_left};
 
-use columns::intake::Intake;
+use columns::opening::open_parts;
 use columns::sections::{Sections, sections_number};
-use columns::take::{Counts, take_cells, take_finish, take_rows, take_s_words, take_tables};
+use columns::take::{Counts, OPEN, take_cells, take_finish, take_rows, take_s_words, take_tables};
 use parameters::parameters::Parameters;
 use refusal::Refusal;
-use selector::Marks;
+use selector::{MOST_GATES, Marks};
 use tree::plan::Plan;
 use tree::planning::plan;
 
 // Every call after opening, each on the counts that the call before it left; finishing gets the
 // marks that the rows made. A refused call changes nothing, and the calls after it are made all the same.
 fn give_sections(
-    plan: Plan,
+    plan: &Plan,
     mut counts: Counts,
     mut used: Marks,
     rows: &[u64],
@@ -33,7 +33,7 @@ fn give_sections(
     scratch: &mut [u64],
     tables: &mut [u64],
 )
-    ensures { store_of constants.new copies.new scratch.new tables.new ≡ (chained (calls rows.now s_words.now cells.now table_words.now) (keeping (with_state plan (state_in counts used)) constants.old copies.old scratch.old tables.old)).store }
+    ensures { store_of constants.new copies.new scratch.new tables.new ≡ (chained (calls rows.now s_words.now cells.now table_words.now) (keeping (with_state plan.now (state_in counts used)) constants.old copies.old scratch.old tables.old)).store }
 {
     let parts = plan.parts();
     let _ = take_rows(parts, &mut counts, &mut used, rows, constants);
@@ -43,8 +43,23 @@ fn give_sections(
     let _ = take_finish(parts, &mut counts, &used, copies, scratch);
 }
 
-// Opening and every later call, each on the state that the call before it left, unless one of
-// them would be refused: then its refusal. It is not inlined, so that planning's room on the stack is not beside its own.
+// What refuses a planned circuit. It is not inlined, so that its room on the stack is free again while the circuit runs.
+#[inline(never)]
+fn test_planned(
+    plan: &Plan,
+    sections: Sections<'_>,
+    constants: &[u64],
+    copies: &[u64],
+    scratch: &[u64],
+    tables: &[u64],
+) -> Result<(), Refusal>
+    ensures { answer_number result ≡ sections_number (setting_of plan.now) (store_of constants.now copies.now scratch.now tables.now) sections.entry.rows.now sections.entry.s_words.now sections.entry.cells.now sections.entry.tables.now }
+{
+    sections_number(*plan, sections, constants, copies, scratch, tables)
+}
+
+// Opening, and every later call, each on the state that the call before it left, unless one of
+// them would be refused: then its refusal. The plan is opened in parts, so that no state stands beside it on the stack. It is not inlined, so that planning's room on the stack is not beside its own.
 #[inline(never)]
 fn run_planned(
     plan: Plan,
@@ -66,13 +81,20 @@ fn run_planned(
         cells,
         tables: table_words,
     };
-    sections_number(plan, sections, constants, copies, scratch, tables)?;
-    let state = Intake::open(plan, constants, copies, scratch, tables)?;
-    let used = state.used;
+    test_planned(&plan, sections, constants, copies, scratch, tables)?;
+    open_parts(plan.parts(), constants, copies, scratch, tables)?;
+    let none = Counts {
+        rows: 0,
+        s_words: 0,
+        cells: 0,
+        tables: 0,
+        table_rows: 0,
+        phase: OPEN,
+    };
     give_sections(
-        state.plan,
-        state.counts,
-        used,
+        &plan,
+        none,
+        [0; MOST_GATES],
         rows,
         s_words,
         cells,

@@ -1,11 +1,7 @@
 -- `planning::kinchoyu_plan` meets its contract: 20, with a plan of zeros encoded; then 10; then planning's own number, whose plan is encoded.
-use Rattle.std.proofs.Common.{rules, length, ◌≡◌, ◌∙◌, ap}
-use Rattle.std.specs.Result.{result_unwrap_or}
-use Rattle.refusal.specs.Refusal.{answer_number}
-use Rattle.refusal.proofs.Passing.{unwrap-answer}
+use Rattle.std.proofs.Common.{◌∙◌}
+use Rattle.refusal.specs.Refusal.{answer_number, answer_or}
 use Rattle.tree.specs.Plan.{zero_plan}
-use Rattle.selector.specs.Gates.{gate_slots}
-use Rattle.selector.specs.Nodes.{node_slots}
 use Rattle.capi.specs.PlanningLaws.{plan_10, plan_20, plan-given}
 use Rattle.capi.proofs.planning.kinchoyu_plan.Goals as goal
 
@@ -21,12 +17,10 @@ returns-then-plan-lt-PLAN_WORDS c =
 
 pub returns : goal.returns
 returns c =
-    let r = c.plan-answer in
-    let q = c.unwrap_or.result in
-    let gates-long : length q.gates ≡ gate_slots = search rules in
-    let nodes-long : length q.nodes ≡ node_slots = search rules in
+    let r = c.plan.result in
+    let q = answer_or zero_plan r in
+    let g = c.give_plan.ensures in
     let a = c.args in
-    let given = c.unwrap_or.ensures ∙ ap (result_unwrap_or r.result) c.zero-2.ensures ∙ unwrap-answer zero_plan r.result ∙ r.ensures.plan in
     let both = plan-given a.parameters.now a.gates.now a.plan.now c.if-parameters-ne-PARAMETER_WORDS.false c.if-plan-lt-PLAN_WORDS.false
-    _ (record { number = answer_number r.result; plan = q }) _ (gates-long) (nodes-long) c.parameters_at.ensures (λ i. record { number = r.ensures.number i; plan = given i }) c.encode_plan-2.ensures in
-    record { value = c.outcome.ensures ∙ both.0; plan_after = both.1 }
+    _ (record { number = answer_number r; plan = q }) _ g.gates_long g.nodes_long c.parameters_at.ensures (λ i. record { number = c.plan.ensures.number i; plan = c.plan.ensures.plan i }) g.plan_after in
+    record { value = g.value ∙ both.0; plan_after = both.1 }

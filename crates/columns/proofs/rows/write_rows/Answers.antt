@@ -14,7 +14,7 @@ record Turn (len trace i row next rows : ℕ) : Type 0 where
 
 pub write_lines-requires : goal.write_lines-requires
 write_lines-requires c =
-    let first : Stages c.args.height c.args.gates.bits c.args.gates.steps (drop c.loop-i.i c.args.piece.now) c.stage_rows-staged.new.stage c.stage_rows-staged.result.next c.stage_rows-staged.result.rows = rw (rest_is c.args.piece.now c.loop-i.i) at c.stage_rows-staged.ensures in
+    let first : Stages c.args.height c.args.gates.now.bits c.args.gates.now.steps (drop c.loop-i.i c.args.piece.now) c.stage_rows-staged.new.stage c.stage_rows-staged.result.next c.stage_rows-staged.result.rows = rw (rest_is c.args.piece.now c.loop-i.i) at c.stage_rows-staged.ensures in
     let turn : Turn (length c.args.piece.now) c.args.trace c.loop-i.i c.loop-i.row c.stage_rows-staged.result.next c.stage_rows-staged.result.rows = let a = c.args in
     let l = c.loop-i in
     let p = first in
@@ -25,7 +25,7 @@ write_lines-requires c =
       within = omega (arith, p.within, n, h);
       low = omega arith;
       few = p.few;
-      room = writing_room a.height a.trace a.count a.piece.now a.constants.now a.gates.bits a.gates.steps l.constants l.stage l.row l.i l.invariant _ _ _ p (told_by a.gates) c.requires.piece_value h;
+      room = writing_room a.height a.trace a.count a.piece.now a.constants.now a.gates.now.bits a.gates.now.steps l.constants l.stage l.row l.i l.invariant _ _ _ p (told_by a.gates.now) c.requires.piece_value h;
     } in
     let l = c.loop-i in
     let t = turn in
@@ -33,7 +33,7 @@ write_lines-requires c =
 
 pub overflow_add-row : goal.overflow_add-row
 overflow_add-row c =
-    let first : Stages c.args.height c.args.gates.bits c.args.gates.steps (drop c.loop-i.i c.args.piece.now) c.stage_rows-staged.new.stage c.stage_rows-staged.result.next c.stage_rows-staged.result.rows = rw (rest_is c.args.piece.now c.loop-i.i) at c.stage_rows-staged.ensures in
+    let first : Stages c.args.height c.args.gates.now.bits c.args.gates.now.steps (drop c.loop-i.i c.args.piece.now) c.stage_rows-staged.new.stage c.stage_rows-staged.result.next c.stage_rows-staged.result.rows = rw (rest_is c.args.piece.now c.loop-i.i) at c.stage_rows-staged.ensures in
     let turn : Turn (length c.args.piece.now) c.args.trace c.loop-i.i c.loop-i.row c.stage_rows-staged.result.next c.stage_rows-staged.result.rows = let a = c.args in
     let l = c.loop-i in
     let p = first in
@@ -44,22 +44,22 @@ overflow_add-row c =
       within = omega (arith, p.within, n, h);
       low = omega arith;
       few = p.few;
-      room = writing_room a.height a.trace a.count a.piece.now a.constants.now a.gates.bits a.gates.steps l.constants l.stage l.row l.i l.invariant _ _ _ p (told_by a.gates) c.requires.piece_value h;
+      room = writing_room a.height a.trace a.count a.piece.now a.constants.now a.gates.now.bits a.gates.now.steps l.constants l.stage l.row l.i l.invariant _ _ _ p (told_by a.gates.now) c.requires.piece_value h;
     } in
     omega (arith, turn, c.requires.trace_bound.0)
 
 pub loop-i-preserved : goal.loop-i-preserved
 loop-i-preserved c =
-    let first : Stages c.args.height c.args.gates.bits c.args.gates.steps (drop c.loop-i.i c.args.piece.now) c.stage_rows-staged.new.stage c.stage_rows-staged.result.next c.stage_rows-staged.result.rows = rw (rest_is c.args.piece.now c.loop-i.i) at c.stage_rows-staged.ensures in
+    let first : Stages c.args.height c.args.gates.now.bits c.args.gates.now.steps (drop c.loop-i.i c.args.piece.now) c.stage_rows-staged.new.stage c.stage_rows-staged.result.next c.stage_rows-staged.result.rows = rw (rest_is c.args.piece.now c.loop-i.i) at c.stage_rows-staged.ensures in
     let a = c.args in
     let l = c.loop-i in
     let w = c.write_lines in
-    writing_next a.height a.trace a.count a.piece.now a.constants.now a.gates.bits a.gates.steps l.constants l.stage l.row l.i l.invariant _ _ _ (first) _ w.auto.buffer w.ensures
+    writing_next a.height a.trace a.count a.piece.now a.constants.now a.gates.now.bits a.gates.now.steps l.constants l.stage l.row l.i l.invariant _ _ _ (first) _ w.auto.buffer w.ensures
 
 pub returns : goal.returns
 returns c =
     let a = c.args in
     let l = c.loop-i in
     λ path q.
-    writing_lines a.height a.trace a.count a.piece.now a.constants.now a.gates.bits a.gates.steps l.constants l.stage l.row l.i l.invariant c.loop-i-test.false
-    (told_by a.gates) path c.requires.piece_value q
+    writing_lines a.height a.trace a.count a.piece.now a.constants.now a.gates.now.bits a.gates.now.steps l.constants l.stage l.row l.i l.invariant c.loop-i-test.false
+    (told_by a.gates.now) path c.requires.piece_value q

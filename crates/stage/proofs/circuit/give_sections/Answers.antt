@@ -16,7 +16,7 @@ pub returns : goal.returns
 unfolding chained
 returns c =
     let a = c.args in
-    let q = a.plan in
+    let q = a.plan.now in
     let p = c.parts-parts.ensures in
     let r = c.take_rows in
     let w = c.take_s_words in
